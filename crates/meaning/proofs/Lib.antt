@@ -1,0 +1,10 @@
+pub mod Tests
+pub mod Solution
+pub mod Loops
+pub mod Codes
+pub mod Answers
+pub mod Search
+pub mod Rounds
+pub mod Outcome
+pub mod Cases
+pub mod Theorems

@@ -1,0 +1,3 @@
+pub mod Level
+pub mod Joined
+pub mod Turned

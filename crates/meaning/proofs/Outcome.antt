@@ -1,0 +1,9 @@
+pub mod Found
+pub mod Bound
+pub mod Conclude
+pub mod Unique
+pub mod Finds
+pub mod Neighbours
+pub mod Met
+pub mod Filled
+pub mod Exists

@@ -1,0 +1,5 @@
+pub mod Heights
+pub mod Smallest
+pub mod Places
+pub mod Entry
+pub mod Grown

@@ -1,0 +1,4 @@
+pub mod Finite
+pub mod Spread
+pub mod Order
+pub mod Solve

@@ -1,0 +1,9 @@
+pub mod Table
+pub mod Tree
+pub mod Truth
+pub mod Loop
+pub mod Code
+pub mod Marked
+pub mod Outcome
+pub mod Theorems
+pub mod Cases
