@@ -1,0 +1,28 @@
+-- A judgement by its case, and a text by the judgement of what it gives.
+use Prim.Native.Nat.{ℕ}
+use borrow.Author.Tests.{eq-eqb, ne-eqb}
+use mathlib.Core.List.{List}
+use mathlib.Core.Path.{_≡_, refl, sym, subst}
+use Rattle.table.specs.Rows.{rowsOf, tableOf}
+use Rattle.table.specs.declared.Table.{Table}
+use Rattle.loops.specs.Judged.{Judged}
+use Rattle.loops.specs.declared.Checked.{Checked}
+use Rattle.reader.specs.Reading.{Reads, rows-read, refused, Answers}
+use Rattle.reader.specs.declared.Read.{Read}
+use Rattle.intake.specs.Loading.{Says, numbered, Refuses, Judges, Answered, unread, judged}
+use Rattle.intake.specs.declared.Loaded.{Loaded}
+
+pub judges : (t : Table) (r : Loaded) (c v : Checked) → Judged (tableOf t) c → c ≡ v → Says (numbered (rowsOf t) v) r → Judges t r
+judges t r c v j e s = record { verdict = v; judged = subst (λ (z : Checked). Judged (tableOf t) z) e j; says = s }
+
+-- what was read is refused, or is a table to be judged
+module _ (text : List ℕ) (a : Read) (x : Answers text a) (r : Loaded) where
+  pub refused-by : (a .refusal ≡ 0 → ⊥) → Refuses (a .refusal) (a .place) r → Answered text r
+  refused-by n s =
+      let h : Reads text (refused (a .refusal) (a .place)) = rw (ne-eqb (a .refusal) 0 n) at (x .reads) in
+      record { answer = refused (a .refusal) (a .place); loads = unread h refl; says = s }
+
+  pub judged-by : a .refusal ≡ 0 → Judges (a .table) r → Answered text r
+  judged-by e j =
+      let h : Reads text (rows-read (rowsOf (a .table))) = rw (eq-eqb (a .refusal) 0 e) at (x .reads) in
+      record { answer = numbered (rowsOf (a .table)) (j .verdict); loads = judged h (j .judged) refl; says = j .says }

@@ -1,0 +1,61 @@
+use borrow.Author.Needs.{needs}
+use mathlib.Core.Path.{refl}
+use Rattle.loops.specs.declared.Checked.the-variants.{Fine, Missing, Looping, Large}
+use Rattle.intake.proofs.Judging.{judges}
+use Rattle.intake.proofs.judge.Statement.{statement}
+use Rattle.intake.proofs.judge.Tie as tie
+
+check-requires : tie.Need-check-requires
+check-requires c κs = search needs
+
+enum-told : tie.Need-enum-told
+enum-told c = search needs
+
+enum-known-c : tie.Need-enum-known-c
+enum-known-c c = search needs
+
+refused-requires : tie.Need-refused-requires
+refused-requires c κs = search needs
+
+enum-known-c-2 : tie.Need-enum-known-c-2
+enum-known-c-2 c = search needs
+
+refused-requires-2 : tie.Need-refused-requires-2
+refused-requires-2 c κs = search needs
+
+enum-told-2 : tie.Need-enum-told-2
+enum-told-2 c = search needs
+
+refused-requires-3 : tie.Need-refused-requires-3
+refused-requires-3 c κs = search needs
+
+returns : tie.Need-returns
+returns c =
+    judges _ _ _ Fine (c .before .before .check .ensures) (c .enum-told .given .1)
+    (record { no-refusal = refl; no-place = refl; rows-are = refl; count = c .before .before .before .pre })
+
+returns-2 : tie.Need-returns-2
+returns-2 c = judges _ _ _ (Missing _) (c .before .before .before .before .check .ensures) (c .before .before .c .given .1) (c .refused .ensures)
+
+returns-3 : tie.Need-returns-3
+returns-3 c = judges _ _ _ (Looping _) (c .before .before .before .before .check .ensures) (c .before .before .c2 .given .1) (c .refused2 .ensures)
+
+returns-4 : tie.Need-returns-4
+returns-4 c = judges _ _ _ Large (c .before .before .before .check .ensures) (c .before .enum-told2 .given .1) (c .refused3 .ensures)
+
+pub judge-spec : {M : Type 1} → statement M
+judge-spec =
+    tie.close
+    (tie.spec
+    check-requires
+    enum-told
+    enum-known-c
+    refused-requires
+    enum-known-c-2
+    refused-requires-2
+    enum-told-2
+    refused-requires-3
+    returns
+    returns-2
+    returns-3
+    returns-4)

@@ -1,0 +1,56 @@
+// Refusals 1 to 7: from a text to an accepted table.
+use loops::Checked;
+use table::Table;
+ghost use Rattle.intake.specs.Loading.{Refuses, Answered, Judges};
+ghost use mathlib.Core.Path.{_≡_};
+ghost use Rattle.table.specs.Rows.{rowsOf, tableOf};
+ghost use lib.ListN.{length};
+
+// A table, with refusal 0; or a refusal and its place, with no row.
+pub struct Loaded {
+    pub refusal: usize,
+    pub place: usize,
+    pub table: Table,
+}
+
+// The text is read downwards first, and the table that it gives is judged as a whole.
+pub fn load(text: &[u8]) -> Loaded
+    ensures { λ r. ⌜ Answered (now (text .entry)) r ⌝ }
+{
+    let r = reader::read_text(text);
+    let n = r.refusal;
+    let p = r.place;
+    if n != 0 {
+        return refused(n, p);
+    }
+    let t = r.table;
+    judge(t)
+}
+
+// What is left once a table is read.
+fn judge(table: Table) -> Loaded
+    requires { ⌜ table .rows ≡ length (rowsOf table) ⌝ }
+    ensures { λ r. ⌜ Judges table r ⌝ }
+{
+    let c = loops::check(table);
+    match c {
+        Checked::Fine => Loaded {
+            refusal: 0,
+            place: 0,
+            table: table,
+        },
+        Checked::Missing(i) => refused(5, i),
+        Checked::Looping(i) => refused(6, i),
+        Checked::Large => refused(7, 0),
+    }
+}
+
+fn refused(number: usize, place: usize) -> Loaded
+    ensures { λ r. ⌜ Refuses number place r ⌝ }
+{
+    Loaded {
+        refusal: number,
+        place: place,
+        table: Table::new(),
+    }
+}

@@ -1,0 +1,11 @@
+pub mod Search
+pub mod Told
+pub mod Given
+pub mod Marking
+pub mod Passes
+pub mod Closed
+pub mod Naming
+pub mod Judging
+pub mod Unique
+pub mod Exists
+pub mod Theorems

@@ -1,0 +1,4 @@
+pub mod Judged
+pub mod Search
+pub mod Missing
+pub mod Closing

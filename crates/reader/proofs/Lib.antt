@@ -1,0 +1,10 @@
+pub mod Bytes
+pub mod Words
+pub mod Stages
+pub mod Numbers
+pub mod Written
+pub mod Scan
+pub mod Settled
+pub mod Turns
+pub mod Theorems
+pub mod Accepted
