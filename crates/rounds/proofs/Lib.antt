@@ -1,0 +1,7 @@
+pub mod Places
+pub mod Neighbours
+pub mod Halfway
+pub mod Visits
+pub mod Whole
+pub mod Marks
+pub mod Answer

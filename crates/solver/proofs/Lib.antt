@@ -1,0 +1,12 @@
+pub mod Answering
+pub mod Loading
+pub mod Replying
+pub mod Refusals
+pub mod Shown
+pub mod Verdicts
+pub mod Memory
+pub mod One
+pub mod Carried
+pub mod Laid
+pub mod Some
+pub mod Theorems

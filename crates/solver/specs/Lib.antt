@@ -1,0 +1,3 @@
+pub mod Solved
+pub mod Ready
+pub mod Demands
