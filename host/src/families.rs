@@ -1,0 +1,210 @@
+//! Families of tables that grow with a number, for the benchmark and the comparison tests.
+
+use std::fmt::Write;
+
+/// A table under construction: rows are named before they are numbered.
+#[derive(Default)]
+struct Draft {
+    lines: Vec<String>,
+}
+
+impl Draft {
+    /// Adds a row and gives its number.
+    fn row(&mut self, line: String) -> usize {
+        self.lines.push(line);
+        self.lines.len() - 1
+    }
+
+    /// Adds a row that is written later.
+    fn later(&mut self) -> usize {
+        self.row(String::new())
+    }
+
+    fn is(&mut self, name: usize) -> usize {
+        self.row(format!("is {name}"))
+    }
+
+    fn go(&mut self, direction: usize, at: usize) -> usize {
+        self.row(format!("go {direction} {at}"))
+    }
+
+    fn any(&mut self, i: usize, j: usize) -> usize {
+        self.row(format!("any {i} {j}"))
+    }
+
+    fn all(&mut self, i: usize, j: usize) -> usize {
+        self.row(format!("all {i} {j}"))
+    }
+
+    /// Makes row `at` true exactly where row `as_row` is.
+    fn same(&mut self, at: usize, as_row: usize) {
+        self.lines[at] = format!("any {as_row} {as_row}");
+    }
+
+    /// Makes row `at` true where all of these rows are.
+    fn all_of(&mut self, at: usize, rows: &[usize]) {
+        let joined = rows.iter().copied().reduce(|i, j| self.all(i, j));
+        self.same(at, joined.expect("at least one row"));
+    }
+
+    /// A row that is true at a node from which walking in either of two directions, any number
+    /// of times, leads to a node of this name.
+    fn reach(&mut self, directions: [usize; 2], name: usize) -> usize {
+        let reach = self.later();
+        let here = self.is(name);
+        let [one, other] = directions.map(|direction| self.go(direction, reach));
+        let there = self.any(one, other);
+        self.lines[reach] = format!("any {here} {there}");
+        reach
+    }
+
+    fn text(&self) -> Vec<u8> {
+        let mut text = String::new();
+        for line in &self.lines {
+            writeln!(text, "{}", line.replace(' ', "\t")).expect("a string takes any text");
+        }
+        text.into_bytes()
+    }
+}
+
+/// A chain of `n` first children whose last is named 1: m = n, N = 2, height n + 1.
+pub fn chain(n: usize) -> Vec<u8> {
+    let mut draft = Draft::default();
+    for step in 0..n {
+        draft.go(1, step + 1);
+    }
+    draft.is(1);
+    draft.text()
+}
+
+/// The same chain without end, asked `n` times: m = n, N = 1, unsat. The largest table has n = 12.
+pub fn endless(n: usize) -> Vec<u8> {
+    let mut draft = Draft::default();
+    for _ in 0..n {
+        draft.go(1, 0);
+    }
+    draft.text()
+}
+
+/// Under the top some descendant is named 1, some 2, and so on to `n`: m = 2n, N = n + 1.
+pub fn descendants(n: usize) -> Vec<u8> {
+    let mut draft = Draft::default();
+    let question = draft.later();
+    let reached: Vec<usize> = (1..=n).map(|name| draft.reach([1, 2], name)).collect();
+    draft.all_of(question, &reached);
+    draft.text()
+}
+
+/// Some descendant has ancestors (or siblings of such) named 1, 2, and so on to `n`:
+/// m = 2n + 2, N = n + 1.
+pub fn ancestors(n: usize) -> Vec<u8> {
+    let mut draft = Draft::default();
+    let question = draft.later();
+    let here = draft.later();
+    let [first, next] = [1, 2].map(|direction| draft.go(direction, question));
+    let below = draft.any(first, next);
+    draft.lines[question] = format!("any {here} {below}");
+    let reached: Vec<usize> = (1..=n).map(|name| draft.reach([3, 4], name)).collect();
+    draft.all_of(here, &reached);
+    draft.text()
+}
+
+/// The `n`-th next sibling is named 2 and has a previous one named 1: m = n + 1, N = 3,
+/// height n + 1.
+pub fn siblings(n: usize) -> Vec<u8> {
+    let mut draft = Draft::default();
+    for step in 0..n {
+        draft.go(2, step + 1);
+    }
+    let end = draft.later();
+    let last = draft.is(2);
+    let back = draft.later();
+    let named = draft.is(1);
+    let previous = draft.go(4, back);
+    draft.lines[back] = format!("any {named} {previous}");
+    draft.lines[end] = format!("all {last} {back}");
+    draft.text()
+}
+
+/// The first child has every name from 0 to `n`: m = n + 1, N = n + 1, unsat.
+pub fn contradiction(n: usize) -> Vec<u8> {
+    let mut draft = Draft::default();
+    let question = draft.later();
+    let mut looks = Vec::new();
+    for name in 0..=n {
+        let named = draft.is(name);
+        looks.push(draft.go(1, named));
+    }
+    draft.all_of(question, &looks);
+    draft.text()
+}
+
+/// Somewhere a first child isn't named `n` but its parent is: m = 3 whatever `n` is, N = n + 1.
+pub fn names(n: usize) -> Vec<u8> {
+    let mut draft = Draft::default();
+    let question = draft.later();
+    let [first, next] = [1, 2].map(|direction| draft.go(direction, question));
+    let below = draft.any(first, next);
+    let parent_is = draft.is(n);
+    let parent = draft.go(3, parent_is);
+    let other = draft.row(format!("isnot {n}"));
+    let here = draft.all(parent, other);
+    draft.lines[question] = format!("any {here} {below}");
+    draft.text()
+}
+
+/// A binary counter of `bits` bits that counts the first children below a node, and has all bits
+/// set at the top: m = 2 × bits, N = 1, height 2^bits. It takes two bits or more.
+pub fn counter(bits: usize) -> Vec<u8> {
+    let mut draft = Draft::default();
+    let question = draft.later();
+    let stop = draft.row("stop 1".to_string());
+    // The lowest bit turns at every step.
+    let lowest = draft.bit(stop);
+    draft.turn(lowest, [lowest.unset, lowest.set]);
+    // The carry into a bit is that all lower bits are set; of it, too, there is an opposite.
+    let mut carry = [lowest.set, lowest.unset];
+    for number in 1..bits {
+        let bit = draft.bit(stop);
+        let [carried, stays] = carry;
+        let both = draft.all(bit.set, carried);
+        let neither = draft.all(bit.unset, stays);
+        let (kept, turned) = (draft.all(bit.set, stays), draft.all(bit.unset, carried));
+        let becomes = [draft.any(kept, turned), draft.any(both, neither)];
+        draft.turn(bit, becomes);
+        if number + 1 < bits {
+            carry = [both, draft.any(bit.unset, stays)];
+        } else {
+            draft.lines[question] = format!("all {} {carried}", bit.set);
+        }
+    }
+    draft.text()
+}
+
+/// The rows of one bit of a counter.
+#[derive(Clone, Copy)]
+struct Bit {
+    set: usize,
+    unset: usize,
+    unset_by_child: usize,
+}
+
+impl Draft {
+    /// A bit that is unset where the counting begins.
+    fn bit(&mut self, stop: usize) -> Bit {
+        let set = self.later();
+        let unset_by_child = self.later();
+        let unset = self.any(stop, unset_by_child);
+        Bit {
+            set,
+            unset,
+            unset_by_child,
+        }
+    }
+
+    /// Lets a bit be set or unset where the child says that it becomes so.
+    fn turn(&mut self, bit: Bit, [set, unset]: [usize; 2]) {
+        self.lines[bit.set] = format!("go 1 {set}");
+        self.lines[bit.unset_by_child] = format!("go 1 {unset}");
+    }
+}
