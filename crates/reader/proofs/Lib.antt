@@ -6,5 +6,6 @@ pub mod Written
 pub mod Scan
 pub mod Settled
 pub mod Turns
+pub mod Tables
 pub mod Theorems
 pub mod Accepted

@@ -11,7 +11,7 @@ use Rattle.table.specs.Written.{tab, line-feed, decimal, written-fields, TwoDig
 use Rattle.reader.specs.Parts.{Taken, taken, nothing, _then_, byteIn, digit, second, first, numberIn, fieldIn, fieldsIn}
 
 -- a byte and whether it is a digit
-digit-is : (x : ℕ) → 48 ≤ x → x ≤ 57 → digit x ≡ true
+pub digit-is : (x : ℕ) → 48 ≤ x → x ≤ 57 → digit x ≡ true
 digit-is x l h = rw (le-leb 48 x l, le-leb x 57 h)
 
 pub digit-fits : (x : ℕ) → digit x ≡ true → (48 ≤ x) × (x ≤ 57)
@@ -37,18 +37,18 @@ module _ (x : ℕ) (s : List ℕ) where
   pub second-other : (n : ℕ) → digit x ≡ false → second n (x ∷ s) ≡ taken n (x ∷ s)
   second-other n d = rw d
 
--- a written number and a rest that takes no further digit
-pub number-read : (n : ℕ) (rest : List ℕ) → n < 100 → ((m : ℕ) → second m rest ≡ taken m rest) → numberIn (decimal n ++ rest) ≡ taken n rest
+-- a written number; behind one digit, the rest takes no further one
+pub number-read : (n : ℕ) (rest : List ℕ) → n < 100 → (n < 10 → (m : ℕ) → second m rest ≡ taken m rest) → numberIn (decimal n ++ rest) ≡ taken n rest
 unfolding decimal
 number-read zero rest h f = refl
-number-read (suc k) rest h f = at (suc k) h (omega arith) (ltb (suc k) 10) refl
+number-read (suc k) rest h f = at (suc k) h (omega arith) f (ltb (suc k) 10) refl
   where
-    at : (n : ℕ) → n < 100 → 0 < n → (t : Bool) → ltb n 10 ≡ t → numberIn (cond t ((48 + n) ∷ []) ((48 + n / 10) ∷ ((48 + n % 10) ∷ [])) ++ rest) ≡ taken n rest
-    at n h p true e =
+    at : (n : ℕ) → n < 100 → 0 < n → (n < 10 → (m : ℕ) → second m rest ≡ taken m rest) → (t : Bool) → ltb n 10 ≡ t → numberIn (cond t ((48 + n) ∷ []) ((48 + n / 10) ∷ ((48 + n % 10) ∷ [])) ++ rest) ≡ taken n rest
+    at n h p f true e =
         let l : n < 10 = ltb-true n 10 e in
         let m : 48 + n - 48 ≡ n = omega arith in
-        first-digit (48 + n) rest (λ z. omega arith) (digit-is (48 + n) (omega arith) (omega arith)) ∙ rw m (f n)
-    at n h p false e =
+        first-digit (48 + n) rest (λ z. omega arith) (digit-is (48 + n) (omega arith) (omega arith)) ∙ rw m (f l n)
+    at n h p f false e =
         let l : 10 ≤ n = ltb-false n 10 e in
         let m : (48 + n / 10 - 48) * 10 + (48 + n % 10 - 48) ≡ n = omega arith in
         first-digit (48 + n / 10) _ (λ z. omega arith) (digit-is (48 + n / 10) (omega arith) (omega arith)) ∙
@@ -108,14 +108,14 @@ pub fields-read : (ns rest : List ℕ) → TwoDigits ns → fieldsIn (length ns)
 unfolding fieldsIn written-fields
 fields-read [] rest h = refl
 fields-read (n ∷ ns) rest h =
-    rw (append-assoc, number-read n (written-fields ns ++ rest) (h .0) (goes-on ns rest), fields-read ns rest (h .1))
+    rw (append-assoc, number-read n (written-fields ns ++ rest) (h .0) (λ l. goes-on ns rest), fields-read ns rest (h .1))
 
 -- what a step took, where the steps after it took something
 pub then-taken : {A B : Type 0} {b : B} {rest : List ℕ} (t : Taken A) (f : A → List ℕ → Taken B) → (t then f) ≡ taken b rest → (a : A) × (s : List ℕ) × (t ≡ taken a s) × (f a s ≡ taken b rest)
 then-taken (taken a s) f e = (a, s, refl, e)
 then-taken nothing f e = absurd (let z : _≡_ {A = ℕ} 0 1 = cc in omega arith)
 
-byte-taken : (b : ℕ) (s : List ℕ) (n : ℕ) (rest : List ℕ) → byteIn b s ≡ taken n rest → s ≡ b ∷ rest
+pub byte-taken : (b : ℕ) (s : List ℕ) (n : ℕ) (rest : List ℕ) → byteIn b s ≡ taken n rest → s ≡ b ∷ rest
 byte-taken b [] n rest e = absurd (let z : _≡_ {A = ℕ} 0 1 = cc in omega arith)
 byte-taken b (x ∷ s) n rest e = at (eqb x b) refl e
   where

@@ -1,128 +1,144 @@
--- Every text has exactly one reading:  the scan's answer is a reading of the text, and every reading of the text is the scan's answer.
+-- Every text has exactly one reading: the scan's answer is a reading of the text, and every reading of the text is the scan's answer.
 use mathlib.Core.Path.{_≡_, refl, ap, sym, subst, _∙_}
 use mathlib.Core.List.{List, [], _∷_, _++_, append-assoc, append-nil}
-use Prim.Native.Nat.{ℕ, zero, suc, _+_, _-_, _≤_}
+use Prim.Native.Nat.{ℕ, zero, suc, _+_, _-_, _<_, _≤_}
 use native.Mathlib.Omega.{arith}
 use lib.ListN.{length, length-append}
-use Rattle.meaning.specs.Table.{row-limit}
-use Rattle.table.specs.declared.Row.{Row}
-use Rattle.table.specs.Written.{written, written-rows, Writable, Exists}
-use Rattle.reader.specs.Parts.{Taken, taken, nothing, lineIn}
-use Rattle.reader.specs.Reading.{Reading, rows-read, refused, Sound, none, more, After, Begins, Malformed, Reads, empty, malformed, too-many, not-there, read}
-use Rattle.reader.proofs.Written.{line-read, line-taken, LineTaken}
-use Rattle.reader.proofs.Scan.{decExists, either, on-line, scan, reading, reading-empty, reading-lines, row-begins, scan-end, scan-full, scan-line, scan-row, scan-not-there}
+use Rattle.reader.specs.Parts.{Taken, taken, nothing}
+use Rattle.reader.specs.Reading.{Begins}
+use Rattle.reader.proofs.Scan.{Kind, either, on-line, scan, reading, reading-empty, reading-lines, line-begins, scan-end, scan-full, scan-line, scan-item, scan-no-item}
 
--- one row more
-sound-more : {rows : List Row} (r : Row) → Sound rows → Writable r → Exists r → Sound (rows ++ (r ∷ []))
-sound-more r none w e = more w e none
-sound-more r (more v d s) w e = more v d (sound-more r s w e)
+-- the text is these items, none of them faulty, and then the rest
+pub record Before {A R : Type 0} (k : Kind A R) (text : List ℕ) (items : List A) (rest : List ℕ) : Type 0 where
+  pub sound : k .Sound items
+  pub split : text ≡ k .whole items ++ rest
 
-written-more : (rows : List Row) (r : Row) (rest : List ℕ) → written-rows (rows ++ (r ∷ [])) ++ rest ≡ written-rows rows ++ (written r ++ rest)
-unfolding written-rows
-written-more [] r rest = rw (append-nil (written r))
-written-more (q ∷ rows) r rest = rw (append-assoc (written q), written-more rows r rest, append-assoc (written q))
+-- no item of right form stands at the front
+pub record NoItem {A R : Type 0} (k : Kind A R) (rest : List ℕ) : Type 0 where
+  pub none-there : (a : A) (end : List ℕ) → k .Right a → rest ≡ k .written a ++ end → ⊥
 
-after-more : {text s : List ℕ} {rows : List Row} {r : Row} {rest : List ℕ} → After text rows s → LineTaken s r rest → Exists r → After text (rows ++ (r ∷ [])) rest
-after-more {rows = rows} {r = r} {rest = rest} a l e =
-    record {
-      sound = sound-more r (a .sound) (l .form) e;
-      split = a .split ∙ ap (λ (x : List ℕ). written-rows rows ++ x) (l .split) ∙ sym (written-more rows r rest);
-    }
+-- the ways in which a reading ends
+pub data Ends {A R : Type 0} (k : Kind A R) (text : List ℕ) : R → Type 0 where
+  empty : text ≡ [] → Ends k text (k .refused (k .no-line) 0)
+  malformed : (items : List A) (rest : List ℕ) → Before k text items rest → length items < k .limit → Begins rest → NoItem k rest → Ends k text (k .refused (k .wrong-line) (length items))
+  too-many : (items : List A) (rest : List ℕ) → Before k text items rest → length items ≡ k .limit → Begins rest → Ends k text (k .refused (k .further-line) (k .limit))
+  not-there : (items : List A) (a : A) (end : List ℕ) → Before k text items (k .written a ++ end) → length items < k .limit → k .Right a → (k .Exists a → ⊥) → Ends k text (k .refused (k .no-item) (length items))
+  read : (items : List A) → Before k text items [] → 1 ≤ length items → length items ≤ k .limit → Ends k text (k .all items)
 
 begins : (x : ℕ) (s : List ℕ) → Begins (x ∷ s)
 begins x s e = let z : _≡_ {A = ℕ} 0 1 = cc in omega arith
 
--- the scan's answer is a reading
-module _ (text : List ℕ) (some : Begins text) where
-  ended : (rows : List Row) → After text rows [] → length rows ≤ row-limit → Reads text (rows-read rows)
-  unfolding written-rows
-  ended [] a h = absurd (some (a .split))
-  ended (r ∷ rows) a h = read (r ∷ rows) a (omega arith) h
-
-  scan-reads : (left : ℕ) (rest : List ℕ) (rows : List Row) → After text rows rest → length rows + left ≡ row-limit → Reads text (scan left rest rows)
-  unfolding scan
-  scan-reads zero [] rows a e = ended rows a (omega arith)
-  scan-reads zero (x ∷ s) rows a e = too-many rows (x ∷ s) a (omega arith) (begins x s)
-  scan-reads (suc left) [] rows a e = ended rows a (omega arith)
-  scan-reads (suc left) (x ∷ s) rows a e = by-line (lineIn (x ∷ s)) refl (scan-reads left)
-    where
-      by-line : (t : Taken Row) → lineIn (x ∷ s) ≡ t → ((rest : List ℕ) (rows : List Row) → After text rows rest → length rows + left ≡ row-limit → Reads text (scan left rest rows)) → Reads text (on-line (scan left) rows t)
-      by-line nothing p f =
-          malformed rows (x ∷ s) a (omega arith) (begins x s) (record { no-row = λ r end w q. none-there r end w q })
-        where
-          none-there : (r : Row) (end : List ℕ) → Writable r → x ∷ s ≡ written r ++ end → ⊥
-          none-there r end w q =
-              let l : lineIn (x ∷ s) ≡ taken r end = ap lineIn q ∙ line-read r end w in
-              let z : _≡_ {A = ℕ} 0 1 = cc in
-              omega arith
-      by-line (taken r rest) p f = by-row (decExists r)
-        where
-          l : LineTaken (x ∷ s) r rest
-          l = line-taken (x ∷ s) r rest p
-
-          by-row : (d : Dec (Exists r)) → Reads text (either d (scan left rest (rows ++ (r ∷ []))) (refused 4 (length rows)))
-          by-row (yes q) = f rest (rows ++ (r ∷ [])) (after-more a l q) (rw (length-append rows (r ∷ [])) (omega arith))
-          by-row (no n) = not-there rows r rest (record { sound = a .sound; split = rw (← l .split) (a .split) }) (omega arith) (l .form) n
-
-pub reads : (text : List ℕ) → Reads text (reading text)
-unfolding written-rows
-reads [] = subst (λ (a : Reading). Reads [] a) (sym reading-empty) (empty refl)
-reads (x ∷ s) =
-    subst
-    (λ (a : Reading). Reads (x ∷ s) a)
-    (sym (reading-lines (x ∷ s) (begins x s)))
-    (scan-reads (x ∷ s) (begins x s) row-limit (x ∷ s) [] (record { sound = none; split = refl }) refl)
-
--- every reading is the scan's answer
-scan-through : {rows : List Row} → Sound rows → (k left : ℕ) (done : List Row) (rest : List ℕ) → k ≡ length rows + left → scan k (written-rows rows ++ rest) done ≡ scan left rest (done ++ rows)
-unfolding written-rows
-scan-through none k left done rest e =
-    let q : k ≡ left = omega arith in
-    rw (append-nil done, q)
-scan-through (more w x s) zero left done rest e = absurd (omega arith)
-scan-through (more {r = r} {rows = rows} w x s) (suc k) left done rest e =
-    rw (append-assoc (written r) (written-rows rows) rest)
-    (scan-row done k (written r ++ (written-rows rows ++ rest)) r (written-rows rows ++ rest) (line-read r (written-rows rows ++ rest) w) x ∙
-    scan-through s k left (done ++ (r ∷ [])) rest (omega arith) ∙
-    rw (append-assoc done (r ∷ []) rows))
-
-reading-after : {text : List ℕ} {rows : List Row} {rest : List ℕ} → Begins text → After text rows rest → (left : ℕ) → row-limit ≡ length rows + left → reading text ≡ scan left rest rows
-reading-after {text} {rows} {rest} b a left e =
-    reading-lines text b ∙ ap (λ (t : List ℕ). scan row-limit t []) (a .split) ∙ scan-through (a .sound) row-limit left [] rest e
-
--- a text with a rest or a row is not empty
+-- nothing stands at the end of an empty list
 no-rest : (s rest : List ℕ) → s ++ rest ≡ [] → rest ≡ []
 no-rest [] rest e = e
 no-rest (x ∷ s) rest e = absurd (begins x (s ++ rest) e)
 
-begins-rest : {text : List ℕ} {rows : List Row} {rest : List ℕ} → After text rows rest → Begins rest → Begins text
-begins-rest {rows = rows} {rest = rest} a b e = b (no-rest (written-rows rows) rest (sym (a .split) ∙ e))
+module _ {A R : Type 0} (k : Kind A R) where
+  -- one item more
+  sound-last : (items : List A) (a : A) → k .Sound items → k .Right a → k .Exists a → k .Sound (items ++ (a ∷ []))
+  sound-last [] a s w e = k .sound-more a [] w e s
+  sound-last (b ∷ items) a s w e =
+      let f = k .sound-each b items s in
+      k .sound-more b (items ++ (a ∷ [])) (f .0) (f .1) (sound-last items a (f .2) w e)
 
-begins-row : {rows : List Row} → Sound rows → 1 ≤ length rows → (rest : List ℕ) → Begins (written-rows rows ++ rest)
-unfolding written-rows
-begins-row none h rest = absurd (omega arith)
-begins-row (more {r = r} {rows = rows} w x s) h rest =
-    row-begins _ (ap lineIn (append-assoc (written r) (written-rows rows) rest) ∙ line-read r (written-rows rows ++ rest) w)
+  whole-last : (items : List A) (a : A) (rest : List ℕ) → k .whole (items ++ (a ∷ [])) ++ rest ≡ k .whole items ++ (k .written a ++ rest)
+  whole-last [] a rest = rw (k .whole-more a [], k .whole-none, append-nil (k .written a))
+  whole-last (b ∷ items) a rest =
+      rw (k .whole-more b (items ++ (a ∷ [])), k .whole-more b items, append-assoc (k .written b) (k .whole (items ++ (a ∷ []))) rest, append-assoc (k .written b) (k .whole items) (k .written a ++ rest), whole-last items a rest)
 
-nothing-there : (s : List ℕ) → Malformed s → lineIn s ≡ nothing
-nothing-there s m = at (lineIn s) refl
-  where
-    at : (t : Taken Row) → lineIn s ≡ t → t ≡ nothing
-    at nothing e = refl
-    at (taken r end) e =
-        let l = line-taken s r end e in
-        absurd (m .no-row r end (l .form) (l .split))
+  before-more : (text s : List ℕ) (items : List A) (a : A) (rest : List ℕ) → Before k text items s → k .Right a × (s ≡ k .written a ++ rest) → k .Exists a → Before k text (items ++ (a ∷ [])) rest
+  before-more text s items a rest b l e =
+      record {
+        sound = sound-last items a (b .sound) (l .0) e;
+        split = b .split ∙ ap (λ (x : List ℕ). k .whole items ++ x) (l .1) ∙ sym (whole-last items a rest);
+      }
 
-pub only : {text : List ℕ} {a : Reading} → Reads text a → a ≡ reading text
-only (empty e) = sym (ap reading e ∙ reading-empty)
-only (malformed rows rest a h b m) =
-    let left = 47 - length rows in
-    sym (reading-after (begins-rest a b) a (suc left) (omega arith) ∙ scan-line rows left rest nothing b (nothing-there rest m))
-only (too-many rows rest a h b) = sym (reading-after (begins-rest a b) a 0 (omega arith) ∙ scan-full rows rest b)
-only (not-there rows r end a h w n) =
-    let left = 47 - length rows in
-    let e = line-read r end w in
-    sym (reading-after (begins-rest a (row-begins (written r ++ end) e)) a (suc left) (omega arith) ∙ scan-not-there rows left (written r ++ end) r end e n)
-only {text} (read rows a l h) =
-    let b : Begins text = λ e. begins-row (a .sound) l [] (sym (a .split) ∙ e) in
-    sym (reading-after b a (row-limit - length rows) (omega arith) ∙ scan-end rows (row-limit - length rows))
+  -- what is read at a front, and what stands there
+  nothing-there : (s : List ℕ) → NoItem k s → k .lineIn s ≡ nothing
+  nothing-there s m = at (k .lineIn s) refl
+    where
+      at : (t : Taken A) → k .lineIn s ≡ t → t ≡ nothing
+      at nothing e = refl
+      at (taken a end) e = let l = k .line-taken s a end e in absurd (m .none-there a end (l .0) (l .1))
+
+  none-read : (s : List ℕ) → k .lineIn s ≡ nothing → NoItem k s
+  none-read s e = record { none-there = there }
+    where
+      there : (a : A) (end : List ℕ) → k .Right a → s ≡ k .written a ++ end → ⊥
+      there a end w q =
+          let l : k .lineIn s ≡ taken a end = ap (k .lineIn) q ∙ k .line-read a end w in
+          let z : _≡_ {A = ℕ} 0 1 = cc in
+          omega arith
+
+  -- the scan's answer is a reading
+  module _ (text : List ℕ) (some : Begins text) where
+    ended : (items : List A) → Before k text items [] → length items ≤ k .limit → Ends k text (k .all items)
+    ended [] b h = absurd (some (b .split ∙ rw (k .whole-none)))
+    ended (a ∷ items) b h = read (a ∷ items) b (omega arith) h
+
+    scan-reads : (left : ℕ) (rest : List ℕ) (items : List A) → Before k text items rest → length items + left ≡ k .limit → Ends k text (scan k left rest items)
+    unfolding scan
+    scan-reads zero [] items b e = ended items b (omega arith)
+    scan-reads zero (x ∷ s) items b e = too-many items (x ∷ s) b (omega arith) (begins x s)
+    scan-reads (suc left) [] items b e = ended items b (omega arith)
+    scan-reads (suc left) (x ∷ s) items b e = by-line (k .lineIn (x ∷ s)) refl (scan-reads left)
+      where
+        by-line : (t : Taken A) → k .lineIn (x ∷ s) ≡ t → ((rest : List ℕ) (items : List A) → Before k text items rest → length items + left ≡ k .limit → Ends k text (scan k left rest items)) → Ends k text (on-line k (scan k left) items t)
+        by-line nothing p f = malformed items (x ∷ s) b (omega arith) (begins x s) (none-read (x ∷ s) p)
+        by-line (taken a rest) p f = by-item (k .decide a)
+          where
+            l : k .Right a × (x ∷ s ≡ k .written a ++ rest)
+            l = k .line-taken (x ∷ s) a rest p
+
+            by-item : (d : Dec (k .Exists a)) → Ends k text (either d (scan k left rest (items ++ (a ∷ []))) (k .refused (k .no-item) (length items)))
+            by-item (yes q) = f rest (items ++ (a ∷ [])) (before-more text (x ∷ s) items a rest b l q) (rw (length-append items (a ∷ [])) (omega arith))
+            by-item (no n) = not-there items a rest (record { sound = b .sound; split = rw (← l .1) (b .split) }) (omega arith) (l .0) n
+
+  pub ends : (text : List ℕ) → Ends k text (reading k text)
+  ends [] = subst (λ (a : R). Ends k [] a) (sym (reading-empty k)) (empty refl)
+  ends (x ∷ s) =
+      subst
+      (λ (a : R). Ends k (x ∷ s) a)
+      (sym (reading-lines k (x ∷ s) (begins x s)))
+      (scan-reads (x ∷ s) (begins x s) (k .limit) (x ∷ s) [] (record { sound = k .sound-none; split = rw (k .whole-none) }) (omega arith))
+
+  -- every reading is the scan's answer
+  scan-through : (items : List A) → k .Sound items → (n left : ℕ) (done : List A) (rest : List ℕ) → n ≡ length items + left → scan k n (k .whole items ++ rest) done ≡ scan k left rest (done ++ items)
+  scan-through [] s n left done rest e =
+      let q : n ≡ left = omega arith in
+      rw (k .whole-none, append-nil done, q)
+  scan-through (a ∷ items) s zero left done rest e = absurd (omega arith)
+  scan-through (a ∷ items) s (suc n) left done rest e =
+      let f = k .sound-each a items s in
+      rw (k .whole-more a items, append-assoc (k .written a) (k .whole items) rest)
+      (scan-item k done n (k .written a ++ (k .whole items ++ rest)) a (k .whole items ++ rest) (k .line-read a (k .whole items ++ rest) (f .0)) (f .1) ∙
+      scan-through items (f .2) n left (done ++ (a ∷ [])) rest (omega arith) ∙
+      rw (append-assoc done (a ∷ []) items))
+
+  reading-after : (text : List ℕ) (items : List A) (rest : List ℕ) → Begins text → Before k text items rest → (left : ℕ) → k .limit ≡ length items + left → reading k text ≡ scan k left rest items
+  reading-after text items rest t b left e =
+      reading-lines k text t ∙ ap (λ (s : List ℕ). scan k (k .limit) s []) (b .split) ∙ scan-through items (b .sound) (k .limit) left [] rest e
+
+  -- a text with a rest or an item is not empty
+  begins-rest : (text : List ℕ) (items : List A) (rest : List ℕ) → Before k text items rest → Begins rest → Begins text
+  begins-rest text items rest b r e = r (no-rest (k .whole items) rest (sym (b .split) ∙ e))
+
+  begins-item : (items : List A) → k .Sound items → 1 ≤ length items → (rest : List ℕ) → Begins (k .whole items ++ rest)
+  begins-item [] s h rest = absurd (omega arith)
+  begins-item (a ∷ items) s h rest =
+      line-begins k _ (ap (k .lineIn) (rw (k .whole-more a items) (append-assoc (k .written a) (k .whole items) rest)) ∙ k .line-read a (k .whole items ++ rest) (k .sound-each a items s .0))
+
+  pub only : {text : List ℕ} {a : R} → Ends k text a → a ≡ reading k text
+  only (empty e) = sym (ap (reading k) e ∙ reading-empty k)
+  only {text} (malformed items rest b h r m) =
+      let left = k .limit - suc (length items) in
+      sym (reading-after text items rest (begins-rest text items rest b r) b (suc left) (omega arith) ∙ scan-line k items left rest nothing r (nothing-there rest m))
+  only {text} (too-many items rest b h r) = sym (reading-after text items rest (begins-rest text items rest b r) b 0 (omega arith) ∙ scan-full k items rest r)
+  only {text} (not-there items a end b h w n) =
+      let left = k .limit - suc (length items) in
+      let e = k .line-read a end w in
+      let r = begins-rest text items (k .written a ++ end) b (line-begins k (k .written a ++ end) e) in
+      sym (reading-after text items (k .written a ++ end) r b (suc left) (omega arith) ∙ scan-no-item k items left (k .written a ++ end) a end e n)
+  only {text} (read items b l h) =
+      let t : Begins text = λ e. begins-item items (b .sound) l [] (sym (b .split) ∙ e) in
+      sym (reading-after text items [] t b (k .limit - length items) (omega arith) ∙ scan-end k items (k .limit - length items))

@@ -1,6 +1,6 @@
 -- The theorems of specs/Theorems.
 use mathlib.Core.Path.{_≡_, refl, ap, sym, _∙_}
-use mathlib.Core.List.{List, [], _∷_, _++_, append-nil}
+use mathlib.Core.List.{List, [], _∷_, append-nil}
 use mathlib.Core.Bool.{Bool, true, false, cond}
 use Prim.Native.Nat.{ℕ, _+_, _*_, _/_, _%_, _≤_}
 use native.Mathlib.Omega.{arith}
@@ -9,17 +9,15 @@ use lib.ListN.{length, length-append}
 use borrow.Author.Tests.{eqb-true, eqb-false}
 use Rattle.table.specs.declared.Row.{Row}
 use Rattle.table.specs.Rows.{rowsOf}
-use Rattle.table.specs.Written.{word, fields, decimal, written-fields, written, written-rows, Writable}
-use Rattle.reader.specs.Parts.{taken, lineIn}
+use Rattle.table.specs.Written.{word, fields, decimal, written-fields, written-rows}
 use Rattle.reader.specs.Reading.{rows-read, refused, Reads, read}
 use Rattle.reader.specs.Theorems.{OneReading, SameAnswer, OneAnswer, ReadsBack, OneRow, LineLength}
 use Rattle.reader.proofs.Words.{shape}
-use Rattle.reader.proofs.Written.{line-read}
-use Rattle.reader.proofs.Scan.{reading}
-use Rattle.reader.proofs.Settled as settled
+use Rattle.reader.proofs.Scan.{reading, one-item}
+use Rattle.reader.proofs.Tables.{tables, reads, only}
 
 pub one-reading : (text : List ℕ) → OneReading text
-one-reading text = record { reading = reading text; reads = settled.reads text; unique = λ p q. settled.only p ∙ sym (settled.only q) }
+one-reading text = record { reading = reading tables text; reads = reads text; unique = λ p q. only p ∙ sym (only q) }
 
 no-row : (rows : List Row) → length rows ≡ 0 → rows ≡ []
 no-row [] e = refl
@@ -59,13 +57,7 @@ reads-back rows s l h =
     back = read rows (record { sound = s; split = sym (append-nil (written-rows rows)) }) l h
 
 pub one-row : (text : List ℕ) → OneRow text
-one-row text = record { same = alone }
-  where
-    alone : (r q : Row) (end other : List ℕ) → Writable r → Writable q → text ≡ written r ++ end → text ≡ written q ++ other → (r ≡ q) × (end ≡ other)
-    alone r q end other v w e f =
-        let a : lineIn text ≡ taken r end = ap lineIn e ∙ line-read r end v in
-        let b : lineIn text ≡ taken q other = ap lineIn f ∙ line-read q other w in
-        (cc, cc)
+one-row text = record { same = λ r q end other v w e f. one-item tables r q end other v w (sym e ∙ f) }
 
 -- a field takes at most its tab and two digits
 decimal-length : (n : ℕ) → length (decimal n) ≤ 2

@@ -1,90 +1,65 @@
--- The loop of `read_text`: what holds when a line is reached, what each sort of line makes of it, and the answers at its ends.
-use mathlib.Core.Path.{_≡_, refl, ap, sym, subst, _∙_}
-use mathlib.Core.List.{List, [], _∷_}
+-- The loop of a `read_text`: what holds when a line is reached, and what each sort of line makes of it.
+use mathlib.Core.Path.{_≡_, refl, ap, sym, _∙_}
+use mathlib.Core.List.{List, [], _∷_, _++_}
 use Prim.Native.Nat.{ℕ, suc, _+_, _-_, _<_, _≤_}
 use native.Mathlib.Omega.{arith}
 use lib.ListN.{length, drop, length-append, length-drop, drop-of-length-le}
-use borrow.Author.Tests.{ne-eqb}
-use Rattle.meaning.specs.Table.{row-limit}
-use Rattle.table.specs.declared.Row.{Row}
-use Rattle.table.specs.declared.Table.{Table}
-use Rattle.table.specs.Rows.{rowsOf, Extended}
-use Rattle.table.specs.Written.{Exists}
-use Rattle.reader.specs.declared.Read.{Read}
-use Rattle.reader.specs.Parts.{taken, nothing, lineIn}
-use Rattle.reader.specs.Reading.{Reading, rows-read, refused, Begins, Reads, readingOf, Answers}
-use Rattle.reader.proofs.Scan.{scan, reading, reading-empty, reading-lines, scan-end, scan-full, scan-line, scan-row, scan-not-there}
-use Rattle.reader.proofs.Settled.{reads}
+use Rattle.reader.specs.Parts.{taken, nothing}
+use Rattle.reader.specs.Reading.{Begins}
+use Rattle.reader.proofs.Scan.{Kind, scan, reading, reading-empty, reading-lines, scan-end, scan-full, scan-line, scan-item, scan-no-item}
 
--- the table holds the rows of the text before `at`, and the rest of the text decides
-pub record Turn (text : List ℕ) (t : Table) (at : ℕ) : Type 0 where
-  pub few : t .rows ≤ row-limit
-  pub counted : t .rows ≡ length (rowsOf t)
-  pub left : reading text ≡ scan (row-limit - t .rows) (drop at text) (rowsOf t)
+-- n items have been read before `at`, and the rest of the text decides
+pub record Turn {A R : Type 0} (k : Kind A R) (text : List ℕ) (n : ℕ) (items : List A) (at : ℕ) : Type 0 where
+  pub few : n ≤ k .limit
+  pub counted : n ≡ length items
+  pub left : reading k text ≡ scan k (k .limit - n) (drop at text) items
 
 begins-at : (text : List ℕ) (at : ℕ) → at < length text → Begins (drop at text)
 begins-at text at h e = omega (arith, simp length-drop at (ap length e))
 
-module _ (text : List ℕ) where
-  pub first-turn : (t : Table) → (length text ≡ 0 → ⊥) → (t .rows ≡ 0) × (rowsOf t ≡ []) → Turn text t 0
-  first-turn t h e =
-      record {
-        few = omega arith;
-        counted = e .0 ∙ sym (ap length (e .1));
-        left = reading-lines text (λ z. h (ap length z)) ∙ rw (e .1, e .0);
-      }
+module _ {A R : Type 0} (k : Kind A R) (text : List ℕ) where
+  pub empty-text : length text ≡ 0 → reading k text ≡ k .refused (k .no-line) 0
+  empty-text e = ap (reading k) (nil text e) ∙ reading-empty k
+    where
+      nil : (s : List ℕ) → length s ≡ 0 → s ≡ []
+      nil [] e = refl
+      nil (x ∷ s) e = absurd (omega arith)
 
-  module _ (t : Table) (at : ℕ) (u : Turn text t at) where
-    pub at-end : length text ≤ at → reading text ≡ rows-read (rowsOf t)
-    at-end h = u .left ∙ ap (λ (s : List ℕ). scan (row-limit - t .rows) s (rowsOf t)) (drop-of-length-le text h) ∙ scan-end (rowsOf t) (row-limit - t .rows)
+  module _ (n : ℕ) (items : List A) where
+    pub first-turn : (length text ≡ 0 → ⊥) → (n ≡ 0) × (items ≡ []) → Turn k text n items 0
+    first-turn h e =
+        let z : k .limit - n ≡ k .limit = omega arith in
+        record {
+          few = omega arith;
+          counted = e .0 ∙ sym (ap length (e .1));
+          left = reading-lines k text (λ z. h (ap length z)) ∙ rw (e .1, z);
+        }
 
-    pub at-full : at < length text → t .rows ≡ row-limit → reading text ≡ refused 3 (t .rows)
-    at-full h e =
-        let z : row-limit - t .rows ≡ 0 = omega arith in
-        u .left ∙ rw z (scan-full (rowsOf t) (drop at text) (begins-at text at h)) ∙ ap (refused 3) (sym e)
+    module _ (at : ℕ) (u : Turn k text n items at) where
+      pub at-end : length text ≤ at → reading k text ≡ k .all items
+      at-end h = u .left ∙ ap (λ (s : List ℕ). scan k (k .limit - n) s items) (drop-of-length-le text h) ∙ scan-end k items (k .limit - n)
 
-    module _ (h : at < length text) (n : t .rows ≡ row-limit → ⊥) where
-      one-more : row-limit - t .rows ≡ suc (row-limit - (t .rows + 1))
-      one-more = omega (arith, u .few, n)
+      module _ (h : at < length text) where
+        pub at-full : n ≡ k .limit → reading k text ≡ k .refused (k .further-line) n
+        at-full e =
+            let z : k .limit - n ≡ 0 = omega arith in
+            u .left ∙ rw z (scan-full k items (drop at text) (begins-at text at h)) ∙ ap (k .refused (k .further-line)) (sym e)
 
-      pub at-wrong : lineIn (drop at text) ≡ nothing → reading text ≡ refused 2 (t .rows)
-      at-wrong e = u .left ∙ rw one-more (scan-line (rowsOf t) _ (drop at text) nothing (begins-at text at h) e) ∙ ap (refused 2) (sym (u .counted))
+        module _ (m : n ≡ k .limit → ⊥) where
+          one-more : k .limit - n ≡ suc (k .limit - (n + 1))
+          one-more = omega (arith, u .few, m)
 
-      module _ (r : Row) (next : ℕ) (e : lineIn (drop at text) ≡ taken r (drop next text)) where
-        pub at-not-there : (Exists r → ⊥) → reading text ≡ refused 4 (t .rows)
-        at-not-there x = u .left ∙ rw one-more (scan-not-there (rowsOf t) _ (drop at text) r (drop next text) e x) ∙ ap (refused 4) (sym (u .counted))
+          pub at-wrong : k .lineIn (drop at text) ≡ nothing → reading k text ≡ k .refused (k .wrong-line) n
+          at-wrong e = u .left ∙ rw one-more (scan-line k items _ (drop at text) nothing (begins-at text at h) e) ∙ ap (k .refused (k .wrong-line)) (sym (u .counted))
 
-        pub next-turn : (q : Table) → Extended t r q → Exists r → Turn text q next
-        next-turn q x p =
-            let l : t .rows < row-limit = omega (arith, u .few, n) in
-            let m = x .more l in
-            record {
-              few = omega arith;
-              counted = omega (arith, u .counted, m .1, length-append (rowsOf t) (r ∷ []), ap length (m .0));
-              left = u .left ∙ ap (λ (k : ℕ). scan k (drop at text) (rowsOf t)) one-more ∙ scan-row (rowsOf t) (row-limit - (t .rows + 1)) (drop at text) r (drop next text) e p ∙ rw (m .0, m .1);
-            }
+          module _ (a : A) (next : ℕ) (e : k .lineIn (drop at text) ≡ taken a (drop next text)) where
+            pub at-not-there : (k .Exists a → ⊥) → reading k text ≡ k .refused (k .no-item) n
+            at-not-there x = u .left ∙ rw one-more (scan-no-item k items _ (drop at text) a (drop next text) e x) ∙ ap (k .refused (k .no-item)) (sym (u .counted))
 
--- the answers
-pub empty-text : (text : List ℕ) → length text ≡ 0 → reading text ≡ refused 1 0
-empty-text [] e = reading-empty
-empty-text (x ∷ s) e = absurd (omega arith)
-
-pub refuses : (text : List ℕ) (number place : ℕ) (r : Read) → (r .refusal ≡ number) × (r .place ≡ place) × (r .table .rows ≡ 0) × (rowsOf (r .table) ≡ []) → (number ≡ 0 → ⊥) → reading text ≡ refused number place → Answers text r
-refuses text number place r f n e =
-    let z : r .refusal ≡ 0 → ⊥ = λ q. n (sym (f .0) ∙ q) in
-    let w : readingOf r ≡ reading text = rw (ne-eqb (r .refusal) 0 z) (cc) in
-    record {
-      reads = subst (λ (a : Reading). Reads text a) (sym w) (reads text);
-      counted = f .2 ∙ sym (ap length (f .3));
-      no-rows = λ q. f .2;
-      no-place = λ q. absurd (z q);
-    }
-
-pub accepts : (text : List ℕ) (t : Table) → t .rows ≡ length (rowsOf t) → reading text ≡ rows-read (rowsOf t) → Answers text (record { refusal = 0; place = 0; table = t })
-accepts text t c e =
-    record {
-      reads = subst (λ (a : Reading). Reads text a) e (reads text);
-      counted = c;
-      no-rows = λ q. absurd (q refl);
-      no-place = λ q. refl;
-    }
+            pub next-turn : (j : ℕ) (all : List A) → (all ≡ items ++ (a ∷ [])) × (j ≡ n + 1) → k .Exists a → Turn k text j all next
+            next-turn j all x p =
+                record {
+                  few = omega (arith, u .few, m);
+                  counted = omega (arith, u .counted, x .1, length-append items (a ∷ []), ap length (x .0));
+                  left = u .left ∙ ap (λ (i : ℕ). scan k i (drop at text) items) one-more ∙ scan-item k items (k .limit - (n + 1)) (drop at text) a (drop next text) e p ∙ rw (x .0, x .1);
+                }

@@ -7,7 +7,7 @@ ghost use Rattle.table.specs.Rows.{rowsOf};
 ghost use Rattle.reader.specs.Reading.{Answers};
 
 mod lines;
-mod parts;
+pub mod parts;
 
 // Refusal 0 and the table, or the refusal's number and place and an empty table.
 pub struct Read {

@@ -69,7 +69,7 @@ fn read_second(text: &[u8], at: usize, first: u8) -> Part
     Part::Is(first, at)
 }
 
-fn is_digit(byte: u8) -> bool
+pub fn is_digit(byte: u8) -> bool
     ensures { λ r. ⌜ r ≡ digit byte ⌝ }
 {
     b'0' <= byte && byte <= b'9'
