@@ -1,6 +1,7 @@
 -- A judgement by its case, and a text by the judgement of what it gives.
 use Prim.Native.Nat.{ℕ}
 use borrow.Author.Tests.{eq-eqb, ne-eqb}
+use mathlib.Core.Bool.{Bool}
 use mathlib.Core.List.{List}
 use mathlib.Core.Path.{_≡_, refl, sym, subst}
 use Rattle.table.specs.Rows.{rowsOf, tableOf}
@@ -12,17 +13,21 @@ use Rattle.reader.specs.declared.Read.{Read}
 use Rattle.intake.specs.Loading.{Says, numbered, Refuses, Judges, Answered, unread, judged}
 use Rattle.intake.specs.declared.Loaded.{Loaded}
 
-pub judges : (t : Table) (r : Loaded) (c v : Checked) → Judged (tableOf t) c → c ≡ v → Says (numbered (rowsOf t) v) r → Judges t r
-judges t r c v j e s = record { verdict = v; judged = subst (λ (z : Checked). Judged (tableOf t) z) e j; says = s }
+pub judges : (sized : Bool) (t : Table) (r : Loaded) (c v : Checked) {b : Bool} → Judged (tableOf t) c → c ≡ v → sized ≡ b → Says (numbered b (rowsOf t) v) r → Judges sized t r
+judges sized t r c v j e f s = record {
+  verdict = v;
+  judged = subst (λ (z : Checked). Judged (tableOf t) z) e j;
+  says = subst (λ (z : Bool). Says (numbered z (rowsOf t) v) r) (sym f) s;
+}
 
 -- what was read is refused, or is a table to be judged
-module _ (text : List ℕ) (a : Read) (x : Answers text a) (r : Loaded) where
-  pub refused-by : (a .refusal ≡ 0 → ⊥) → Refuses (a .refusal) (a .place) r → Answered text r
+module _ (sized : Bool) (text : List ℕ) (a : Read) (x : Answers text a) (r : Loaded) where
+  pub refused-by : (a .refusal ≡ 0 → ⊥) → Refuses (a .refusal) (a .place) r → Answered sized text r
   refused-by n s =
       let h : Reads text (refused (a .refusal) (a .place)) = rw (ne-eqb (a .refusal) 0 n) at (x .reads) in
-      record { answer = refused (a .refusal) (a .place); loads = unread h refl; says = s }
+      record { answer = refused (a .refusal) (a .place); takes = unread h refl; says = s }
 
-  pub judged-by : a .refusal ≡ 0 → Judges (a .table) r → Answered text r
+  pub judged-by : a .refusal ≡ 0 → Judges sized (a .table) r → Answered sized text r
   judged-by e j =
       let h : Reads text (rows-read (rowsOf (a .table))) = rw (eq-eqb (a .refusal) 0 e) at (x .reads) in
-      record { answer = numbered (rowsOf (a .table)) (j .verdict); loads = judged h (j .judged) refl; says = j .says }
+      record { answer = numbered sized (rowsOf (a .table)) (j .verdict); takes = judged h (j .judged) refl; says = j .says }

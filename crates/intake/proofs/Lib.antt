@@ -1,3 +1,4 @@
 pub mod Judging
 pub mod Inside
 pub mod Theorems
+pub mod Given

@@ -1,9 +1,11 @@
 -- 01, section 6: what a text gives, an accepted table or one of refusals 1 to 7 with its place.
 use Prim.Native.Nat.{ℕ, _<_, _≤_}
+use mathlib.Core.Bool.{Bool, true, false, cond}
 use mathlib.Core.List.{List, [], map}
 use mathlib.Core.Path.{_≡_}
 use lib.ListN.{length}
 use Rattle.meaning.specs.Table as M
+use Rattle.meaning.specs.Loop.{LoopFree}
 use Rattle.meaning.specs.Outcome.{Accepted}
 use Rattle.table.specs.Rows.{meant, rowsOf}
 use Rattle.table.specs.declared.Row.{Row}
@@ -18,17 +20,25 @@ use Rattle.intake.specs.declared.Loaded.{Loaded}
 abbrev pub table : List Row → M.Table
 table rows = map meant rows
 
--- 01's number and place for what is judged of a table that was read.
-abbrev pub numbered : List Row → Checked → Reading
-numbered rows Fine = rows-read rows
-numbered rows (Missing i) = refused 5 i
-numbered rows (Looping i) = refused 6 i
-numbered rows Large = refused 7 0
+-- 01's number and place for what is judged of a table that was read. Refusal 7 is for whoever searches: where `sized` is false a table of any
+-- size passes.
+abbrev pub numbered : Bool → List Row → Checked → Reading
+numbered sized rows Fine = rows-read rows
+numbered sized rows (Missing i) = refused 5 i
+numbered sized rows (Looping i) = refused 6 i
+numbered sized rows Large = cond sized (refused 7 0) (rows-read rows)
 
 -- 1 to 4 are met reading downwards; then 5 over all rows, then 6, then 7. What passes is accepted: `rows-read` of its rows.
-pub data Loads (text : List ℕ) (a : Reading) : Type 0 where
-  unread : {n p : ℕ} → Reads text (refused n p) → a ≡ refused n p → Loads text a
-  judged : {rows : List Row} {c : Checked} → Reads text (rows-read rows) → Judged (table rows) c → a ≡ numbered rows c → Loads text a
+pub data Takes (sized : Bool) (text : List ℕ) (a : Reading) : Type 0 where
+  unread : {n p : ℕ} → Reads text (refused n p) → a ≡ refused n p → Takes sized text a
+  judged : {rows : List Row} {c : Checked} → Reads text (rows-read rows) → Judged (table rows) c → a ≡ numbered sized rows c → Takes sized text a
+
+-- Refusals 1 to 7, and refusals 1 to 6 alone.
+abbrev pub Loads : List ℕ → Reading → Type 0
+Loads text a = Takes true text a
+
+abbrev pub Admits : List ℕ → Reading → Type 0
+Admits text a = Takes false text a
 
 -- The struct that says so: with a refusal no row, with a table refusal and place 0.
 pub record Refuses (number place : ℕ) (r : Loaded) : Type 0 where
@@ -46,17 +56,17 @@ abbrev pub Says : Reading → Loaded → Type 0
 Says (rows-read rows) r = Accepts rows r
 Says (refused n p) r = Refuses n p r
 
--- What `load` promises for every text.
-pub record Answered (text : List ℕ) (r : Loaded) : Type 0 where
+-- What `load` and `admit` promise for every text.
+pub record Answered (sized : Bool) (text : List ℕ) (r : Loaded) : Type 0 where
   pub answer : Reading
-  pub loads : Loads text answer
+  pub takes : Takes sized text answer
   pub says : Says answer r
 
 -- And its second half, for a table.
-pub record Judges (t : Table) (r : Loaded) : Type 0 where
+pub record Judges (sized : Bool) (t : Table) (r : Loaded) : Type 0 where
   pub verdict : Checked
   pub judged : Judged (table (rowsOf t)) verdict
-  pub says : Says (numbered (rowsOf t) verdict) r
+  pub says : Says (numbered sized (rowsOf t) verdict) r
 
 -- What is proved of it: each text has an answer and no other; an accepted table meets all that the theorems of `meaning` ask, and its names
 -- and directions exist.
@@ -66,3 +76,18 @@ pub record OneAnswer (text : List ℕ) : Type 0 where
   pub unique : {a b : Reading} → Loads text a → Loads text b → a ≡ b
   pub accepted : (rows : List Row) → Loads text (rows-read rows) → Accepted (table rows) × Sound rows
   pub small : (n p : ℕ) → Loads text (refused n p) → (0 < n) × (n < 8) × (p ≤ M.row-limit)
+
+-- A table that refusals 3, 5 and 6 let pass: `Accepted` but for its size.
+pub record Admissible (rows : M.Table) : Type 0 where
+  pub some-row : 0 < length rows
+  pub few-rows : length rows ≤ M.row-limit
+  pub in-range : M.InRange rows
+  pub loop-free : LoopFree rows
+
+-- The same of `admit`.
+pub record OneAdmission (text : List ℕ) : Type 0 where
+  pub answer : Reading
+  pub admits : Admits text answer
+  pub unique : {a b : Reading} → Admits text a → Admits text b → a ≡ b
+  pub admitted : (rows : List Row) → Admits text (rows-read rows) → Admissible (table rows) × Sound rows
+  pub small : (n p : ℕ) → Admits text (refused n p) → (0 < n) × (n < 7) × (p ≤ M.row-limit)

@@ -1,7 +1,8 @@
 // Refusals 1 to 7: from a text to an accepted table.
 use loops::Checked;
 use table::Table;
-ghost use Rattle.intake.specs.Loading.{Refuses, Answered, Judges};
+ghost use Rattle.intake.specs.Loading.{Accepts, Refuses, Answered, Judges};
+ghost use mathlib.Core.Bool.{true, false};
 ghost use mathlib.Core.Path.{_≡_};
 ghost use Rattle.table.specs.Rows.{rowsOf, tableOf};
 ghost use lib.ListN.{length};
@@ -13,9 +14,22 @@ pub struct Loaded {
     pub table: Table,
 }
 
-// The text is read downwards first, and the table that it gives is judged as a whole.
 pub fn load(text: &[u8]) -> Loaded
-    ensures { λ r. ⌜ Answered (now (text .entry)) r ⌝ }
+    ensures { λ r. ⌜ Answered true (now (text .entry)) r ⌝ }
+{
+    take(text, true)
+}
+
+// Refusals 1 to 6 alone, for whoever does not search: a table of any size.
+pub fn admit(text: &[u8]) -> Loaded
+    ensures { λ r. ⌜ Answered false (now (text .entry)) r ⌝ }
+{
+    take(text, false)
+}
+
+// The text is read downwards first, and the table that it gives is judged as a whole.
+fn take(text: &[u8], sized: bool) -> Loaded
+    ensures { λ r. ⌜ Answered sized (now (text .entry)) r ⌝ }
 {
     let r = reader::read_text(text);
     let n = r.refusal;
@@ -24,24 +38,37 @@ pub fn load(text: &[u8]) -> Loaded
         return refused(n, p);
     }
     let t = r.table;
-    judge(t)
+    judge(t, sized)
 }
 
 // What is left once a table is read.
-fn judge(table: Table) -> Loaded
+fn judge(table: Table, sized: bool) -> Loaded
     requires { ⌜ table .rows ≡ length (rowsOf table) ⌝ }
-    ensures { λ r. ⌜ Judges table r ⌝ }
+    ensures { λ r. ⌜ Judges sized table r ⌝ }
 {
     let c = loops::check(table);
     match c {
-        Checked::Fine => Loaded {
-            refusal: 0,
-            place: 0,
-            table: table,
-        },
+        Checked::Fine => accepted(table),
         Checked::Missing(i) => refused(5, i),
         Checked::Looping(i) => refused(6, i),
-        Checked::Large => refused(7, 0),
+        Checked::Large => {
+            if sized {
+                refused(7, 0)
+            } else {
+                accepted(table)
+            }
+        }
+    }
+}
+
+fn accepted(table: Table) -> Loaded
+    requires { ⌜ table .rows ≡ length (rowsOf table) ⌝ }
+    ensures { λ r. ⌜ Accepts (rowsOf table) r ⌝ }
+{
+    Loaded {
+        refusal: 0,
+        place: 0,
+        table: table,
     }
 }
 

@@ -11,6 +11,9 @@ check-requires c κs = search needs
 enum-told : tie.Need-enum-told
 enum-told c = search needs
 
+accepted-requires : tie.Need-accepted-requires
+accepted-requires c κs = search needs
+
 enum-known-c : tie.Need-enum-known-c
 enum-known-c c = search needs
 
@@ -29,19 +32,23 @@ enum-told-2 c = search needs
 refused-requires-3 : tie.Need-refused-requires-3
 refused-requires-3 c κs = search needs
 
+accepted-requires-2 : tie.Need-accepted-requires-2
+accepted-requires-2 c κs = search needs
+
 returns : tie.Need-returns
-returns c =
-    judges _ _ _ Fine (c .before .before .check .ensures) (c .enum-told .given .1)
-    (record { no-refusal = refl; no-place = refl; rows-are = refl; count = c .before .before .before .pre })
+returns c = judges _ _ _ _ Fine (c .before .before .before .check .ensures) (c .before .enum-told .given .1) refl (c .accepted .ensures)
 
 returns-2 : tie.Need-returns-2
-returns-2 c = judges _ _ _ (Missing _) (c .before .before .before .before .check .ensures) (c .before .before .c .given .1) (c .refused .ensures)
+returns-2 c = judges _ _ _ _ (Missing _) (c .before .before .before .before .check .ensures) (c .before .before .c .given .1) refl (c .refused .ensures)
 
 returns-3 : tie.Need-returns-3
-returns-3 c = judges _ _ _ (Looping _) (c .before .before .before .before .check .ensures) (c .before .before .c2 .given .1) (c .refused2 .ensures)
+returns-3 c = judges _ _ _ _ (Looping _) (c .before .before .before .before .check .ensures) (c .before .before .c2 .given .1) refl (c .refused2 .ensures)
 
 returns-4 : tie.Need-returns-4
-returns-4 c = judges _ _ _ Large (c .before .before .before .check .ensures) (c .before .enum-told2 .given .1) (c .refused3 .ensures)
+returns-4 c = judges _ _ _ _ Large (c .before .before .before .before .check .ensures) (c .before .before .enum-told2 .given .1) (c .before .if1 .taken) (c .refused3 .ensures)
+
+returns-5 : tie.Need-returns-5
+returns-5 c = judges _ _ _ _ Large (c .before .before .before .before .check .ensures) (c .before .before .enum-told2 .given .1) (c .before .if1 .left) (c .accepted2 .ensures)
 
 pub judge-spec : {M : Type 1} → statement M
 judge-spec =
@@ -49,13 +56,16 @@ judge-spec =
     (tie.spec
     check-requires
     enum-told
+    accepted-requires
     enum-known-c
     refused-requires
     enum-known-c-2
     refused-requires-2
     enum-told-2
     refused-requires-3
+    accepted-requires-2
     returns
     returns-2
     returns-3
-    returns-4)
+    returns-4
+    returns-5)

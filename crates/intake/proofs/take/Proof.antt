@@ -1,7 +1,7 @@
 use borrow.Author.Needs.{needs}
 use Rattle.intake.proofs.Judging.{refused-by, judged-by}
-use Rattle.intake.proofs.load.Statement.{statement}
-use Rattle.intake.proofs.load.Tie as tie
+use Rattle.intake.proofs.take.Statement.{statement}
+use Rattle.intake.proofs.take.Tie as tie
 
 read-text-requires : tie.Need-read-text-requires
 read-text-requires c κs = search needs
@@ -10,14 +10,14 @@ refused-requires : tie.Need-refused-requires
 refused-requires c κs = search needs
 
 returns : tie.Need-returns
-returns c = refused-by _ _ (c .before .before .read-text .ensures) _ (search needs) (c .refused .ensures)
+returns c = refused-by _ _ _ (c .before .before .read-text .ensures) _ (search needs) (c .refused .ensures)
 
 judge-requires : tie.Need-judge-requires
 judge-requires c κs = search needs
 
 returns-2 : tie.Need-returns-2
-returns-2 c = judged-by _ _ (c .before .before .before .read-text .ensures) _ (search needs) (c .judge .ensures)
+returns-2 c = judged-by _ _ _ (c .before .before .before .read-text .ensures) _ (search needs) (c .judge .ensures)
 
-pub load-spec : {M : Type 1} → statement M
-load-spec =
+pub take-spec : {M : Type 1} → statement M
+take-spec =
     tie.close (tie.spec read-text-requires refused-requires returns judge-requires returns-2)
