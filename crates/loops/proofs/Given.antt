@@ -43,7 +43,7 @@ refers-from i j (all-left {k = k} e) = rw e (or-iff (eqb j j) (eqb k j) .1 (inl 
 refers-from i j (all-right {j = k} e) = rw e (or-iff (eqb k j) (eqb j j) .1 (inr (eq-eqb j j refl)))
 
 -- a direction has its number, and no other has it
-numbered : (d : Dir) → dirOf (number d) ≡ d
+pub numbered : (d : Dir) → dirOf (number d) ≡ d
 numbered (down first) = refl
 numbered (down next) = refl
 numbered (up first) = refl

@@ -25,7 +25,7 @@ pairs-most (x ∷ m) = at (eqb x 1) (pairs-most m)
     at true h = omega arith
     at false h = omega arith
 
-pairs-more : (m : List ℕ) (p : ℕ) → p < length m → eqb (getD m p 0) 1 ≡ false → pairs (set m p 1) ≡ pairs m + 1
+pub pairs-more : (m : List ℕ) (p : ℕ) → p < length m → eqb (getD m p 0) 1 ≡ false → pairs (set m p 1) ≡ pairs m + 1
 unfolding pairs
 pairs-more [] p h e = absurd (omega arith)
 pairs-more (x ∷ m) zero h e = rw e (omega arith)

@@ -1,7 +1,7 @@
 // Refusals 5, 6 and 7: whether a table's rows are there, loop-free and few enough to be searched.
 mod closure;
 mod missing;
-mod rules;
+pub mod rules;
 
 ghost use mathlib.Core.Path.{_≡_};
 ghost use Prim.Native.Nat.{_≤_, min};

@@ -27,7 +27,7 @@ pub(crate) fn given_by_rule(cells: &[u32], m: &[u8; PAIRS], i: usize, j: usize) 
     met(m, cells.len(), i, j)
 }
 
-fn refers_to(cell: u32, j: usize) -> bool
+pub fn refers_to(cell: u32, j: usize) -> bool
     ensures { λ r. ⌜ r ≡ refersTo j (meant (rowOf cell)) ⌝ }
 {
     let row = table::row_of(cell);
@@ -105,7 +105,7 @@ fn back_to(cell: u32, d: u8, j: usize) -> bool
     false
 }
 
-fn number_of(d: u8) -> u8
+pub fn number_of(d: u8) -> u8
     ensures { λ r. ⌜ r ≡ number (dirOf d) ⌝ }
 {
     match d {
@@ -116,7 +116,7 @@ fn number_of(d: u8) -> u8
     }
 }
 
-fn number_back(d: u8) -> u8
+pub fn number_back(d: u8) -> u8
     ensures { λ r. ⌜ r ≡ number (converse (dirOf d)) ⌝ }
 {
     match d {

@@ -1,4 +1,5 @@
-// What `sheetsat` prints for a text: 01, section 7. Every number comes from the library; here it is only put into words.
+// What the programs print: `sheetsat` for a table (01, section 7), `sheetjudge` for a table and a sheet (02, C-11). Every number and every
+// verdict comes from the library; here it is only put into words.
 use libc::STDOUT_FILENO;
 
 pub fn word(w: &[u8]) {
@@ -89,11 +90,24 @@ pub fn show(text: &[u8], round: &mut [u16], first: &mut [u16], next: &mut [u16],
             field(height);
             word(b"\n");
         }
-        _ => {
-            word(b"refused");
-            field(a.refusal as usize);
-            field(a.place as usize);
-            word(b"\n");
-        }
+        _ => refused(a.refusal as usize, a.place as usize),
     }
+}
+
+fn refused(number: usize, place: usize) {
+    word(b"refused");
+    field(number);
+    field(place);
+    word(b"\n");
+}
+
+// Judges the sheet by the table, and prints a line for each of its lines.
+pub fn show_judged(table: &[u8], sheet: &[u8]) {
+    let mut out = [0u8; judge::OUTPUT];
+    let j = judge::judge(table, sheet, &mut out);
+    if j.refusal != 0 {
+        return refused(j.refusal as usize, j.place as usize);
+    }
+    let n = io::count(j.written as isize, &out);
+    word(&out[..n]);
 }

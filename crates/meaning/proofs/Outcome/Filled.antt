@@ -3,8 +3,8 @@ use Prim.Native.Nat.{ℕ, zero, suc, _<_}
 use native.Mathlib.Omega.{arith}
 use native.Mathlib.Decide.{decLt}
 use mathlib.Core.List.{List, [], _∷_}
-use mathlib.Core.Path.{_≡_, refl}
-use lib.ListN.{getD}
+use mathlib.Core.Path.{_≡_, refl, ap}
+use lib.ListN.{getD, length}
 use Rattle.meaning.specs.Code.{codes}
 use Rattle.meaning.specs.Loop.{LoopFree}
 use Rattle.meaning.specs.Marked.{Smallest, Within}
@@ -20,9 +20,12 @@ use Rattle.meaning.proofs.Search.Model.{neighbourB}
 use Rattle.meaning.proofs.Search.Truth.{m}
 
 -- A list of what was found for each place.
-choose : (R : ℕ → ℕ → Type 0) (n : ℕ) → ((c : ℕ) → c < n → (v : ℕ) × R c v) → (l : List ℕ) × ((c : ℕ) → c < n → R c (getD l c 0))
-choose R zero f = ([], λ c h. absurd (omega arith))
-choose R (suc n) f = let x = f 0 (omega arith) in let y = choose (λ c v. R (suc c) v) n (λ c h. f (suc c) (omega arith)) in (x .0 ∷ y .0, λ c h. at (x .0) (x .1) (y .0) (y .1) c h)
+pub choose : (R : ℕ → ℕ → Type 0) (n : ℕ) → ((c : ℕ) → c < n → (v : ℕ) × R c v) → (l : List ℕ) × ((c : ℕ) → c < n → R c (getD l c 0)) × (length l ≡ n)
+choose R zero f = ([], λ c h. absurd (omega arith), refl)
+choose R (suc n) f =
+    let x = f 0 (omega arith) in
+    let y = choose (λ c v. R (suc c) v) n (λ c h. f (suc c) (omega arith)) in
+    (x .0 ∷ y .0, λ c h. at (x .0) (x .1) (y .0) (y .1) c h, ap suc (y .2))
   where
     at : (v : ℕ) → R 0 v → (l : List ℕ) → ((c : ℕ) → c < n → R (suc c) (getD l c 0)) → (c : ℕ) → c < suc n → R c (getD (v ∷ l) c 0)
     at v r l g zero h = r
@@ -51,7 +54,7 @@ module _ {rows : Table} (range : InRange rows) (free : LoopFree rows) (last : �
   pub filled : (r : List ℕ) × (f : List ℕ) × (n : List ℕ) × ((u : List ℕ) → Searched rows last (record { round = r; firsts = f; nexts = n; used = u }))
   filled =
       let r = choose (λ c v. RoundIs rows last c v) (codes rows) (λ c l. round-for c) in
-      let on : (s : Side) → (f : List ℕ) × ((c : ℕ) → c < codes rows → NeighbourIs rows (r .0) s c (getD f c 0)) = λ s. choose (λ c v. NeighbourIs rows (r .0) s c v) (codes rows) (neighbour-for (r .0) (r .1) s) in
+      let on : (s : Side) → (f : List ℕ) × ((c : ℕ) → c < codes rows → NeighbourIs rows (r .0) s c (getD f c 0)) × (length f ≡ codes rows) = λ s. choose (λ c v. NeighbourIs rows (r .0) s c v) (codes rows) (neighbour-for (r .0) (r .1) s) in
       let f = on first in
       let n = on next in
       (r .0, f .0, n .0, λ u. record { rounds = r .1; neighbours = λ s. elim s [ first ↦ f .1 | next ↦ n .1 ] })

@@ -12,7 +12,7 @@ use Rattle.meaning.proofs.Outcome.Unique.{carry}
 use Rattle.meaning.proofs.Rounds.Places.{round-le, neighbour-earlier}
 use Rattle.meaning.proofs.Tests.{or-dec}
 
-some-dec : (P : ℕ → Type 0) (n : ℕ) → ((j : ℕ) → j < n → Dec (P j)) → Dec ((j : ℕ) × (j < n) × P j)
+pub some-dec : (P : ℕ → Type 0) (n : ℕ) → ((j : ℕ) → j < n → Dec (P j)) → Dec ((j : ℕ) × (j < n) × P j)
 some-dec P zero d = no (λ x. omega (arith, x .1))
 some-dec P (suc n) d = Dec·of-iff (to, from) (or-dec (d n (omega arith)) (some-dec P n (λ j l. d j (omega arith))))
   where
@@ -27,7 +27,7 @@ some-dec P (suc n) d = Dec·of-iff (to, from) (or-dec (d n (omega arith)) (some-
         on j l p (yes e) = inl (subst P e p)
         on j l p (no e) = inr (j, omega arith, p)
 
-side-dec : (P : Side → Type 0) → ((s : Side) → Dec (P s)) → Dec ((s : Side) × P s)
+pub side-dec : (P : Side → Type 0) → ((s : Side) → Dec (P s)) → Dec ((s : Side) × P s)
 side-dec P d = Dec·of-iff (to, from) (or-dec (d first) (d next))
   where
     to : P first ⊎ P next → (s : Side) × P s

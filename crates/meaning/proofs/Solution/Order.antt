@@ -36,7 +36,7 @@ in-pairs {b = b} (List·Memᴰ·head {x} e) m = Memᴰ·append-left _ (Memᴰ·c
 in-pairs {ys = ys} (List·Memᴰ·tail {x} l) m = Memᴰ·append-right (map (λ y. (x, y)) ys) (in-pairs l m)
 
 -- The nodes of a tree.
-parent-node : (s : Side) (t : Tree) → Node (child s t) → Node t
+pub parent-node : (s : Side) (t : Tree) → Node (child s t) → Node t
 parent-node first nothing h = h
 parent-node next nothing h = h
 parent-node first (node n a b) h = is-node
@@ -58,7 +58,7 @@ present-some : (t : Tree) (p q : Place) → present t p ≡ some q → Node t ×
 present-some nothing p q e = absurd (Option·none-ne-some q e)
 present-some (node n a b) p q e = (is-node, Option·some-injective p q e)
 
-neighbour-node : (t : Tree) (d : Dir) (p q : Place) → Node (below t p) → neighbour t d p ≡ some q → Node (below t q)
+pub neighbour-node : (t : Tree) (d : Dir) (p q : Place) → Node (below t p) → neighbour t d p ≡ some q → Node (below t q)
 neighbour-node t (down s) p q h e =
     let f = present-some (below t (s ∷ p)) (s ∷ p) q e in
     subst (λ (z : Place). Node (below t z)) (f .1) (f .0)

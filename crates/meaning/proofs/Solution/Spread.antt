@@ -14,7 +14,7 @@ pub data Needs (rows : Table) (t : Tree) : ℕ → Place → ℕ → Place → T
   needs-flat : {i j : ℕ} {p : Place} → Refers rows i j → Needs rows t i p j p
   needs-look : {i j : ℕ} {p q : Place} (d : Dir) → rowAt rows i ≡ go-row d j → neighbour t d p ≡ some q → Needs rows t i p j q
 
-data Moved : Dir → Place → Place → Type 0 where
+pub data Moved : Dir → Place → Place → Type 0 where
   went-down : {s : Side} {p : Place} → Moved (down s) p (s ∷ p)
   went-up : {s : Side} {p : Place} → Moved (up s) (s ∷ p) p
 
@@ -22,7 +22,7 @@ moved-present : (t : Tree) (s : Side) (p q : Place) → present t (s ∷ p) ≡ 
 moved-present nothing s p q e = absurd (Option·none-ne-some q e)
 moved-present (node n a b) s p q e = rw (← (Option·some-injective (s ∷ p) q e)) went-down
 
-moved : (t : Tree) (d : Dir) (p q : Place) → neighbour t d p ≡ some q → Moved d p q
+pub moved : (t : Tree) (d : Dir) (p q : Place) → neighbour t d p ≡ some q → Moved d p q
 moved t (down s) p q e = moved-present (below t (s ∷ p)) s p q e
 moved t (up s) [] q e = absurd (Option·none-ne-some q e)
 moved t (up first) (first ∷ p) q e = rw (← (Option·some-injective p q e)) went-up

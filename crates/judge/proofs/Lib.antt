@@ -1,0 +1,9 @@
+pub mod Puts
+pub mod Verdicts
+pub mod Writing
+pub mod OneVerdict
+pub mod Judging
+pub mod Sheets
+pub mod One
+pub mod Some
+pub mod Theorems

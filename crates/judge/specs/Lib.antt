@@ -1,0 +1,4 @@
+pub mod Output
+pub mod Verdicts
+pub mod Ready
+pub mod Judging

@@ -1,0 +1,14 @@
+pub mod Cells
+pub mod Given
+pub mod Numerals
+pub mod Written
+pub mod Stages
+pub mod Sheets
+pub mod Theorems
+pub mod Accepted
+pub mod Counting
+pub mod Named
+pub mod Faults
+pub mod Loading
+pub mod OneAnswer
+pub mod Tree

@@ -1,0 +1,5 @@
+pub mod Naming
+pub mod Unfolded
+pub mod Placed
+pub mod Sheet
+pub mod Near

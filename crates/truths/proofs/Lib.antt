@@ -1,0 +1,11 @@
+pub mod Inside
+pub mod Stores
+pub mod Placing
+pub mod Says
+pub mod Rests
+pub mod Putting
+pub mod Handled
+pub mod Turns
+pub mod Handing
+pub mod Bridge
+pub mod Deciding
