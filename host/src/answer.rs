@@ -48,7 +48,11 @@ impl Answer {
     /// ```
     pub fn new(numbers: Numbers) -> Option<Answer> {
         let answer = match numbers.verdict {
-            Numbers::REFUSED => Answer::Refused(Refusal::new(numbers.refusal, numbers.place)?),
+            Numbers::REFUSED => {
+                let refusal = Refusal::new(numbers.refusal, numbers.place);
+                // The solver is given no sheet.
+                Answer::Refused(refusal.filter(|refusal| !refusal.is_about_sheet())?)
+            }
             Numbers::SAT => Answer::Sat {
                 height: numbers.height,
                 top: u16::try_from(numbers.top).ok()?,

@@ -1,4 +1,5 @@
-//! The C boundary: five numbers out, one text and four lent slices in.
+//! The C boundary: `solve` takes one text and four lent slices and gives five numbers, `judge` takes
+//! two texts and one lent slice and gives three.
 
 /// A place of `first` and `next` that names no code: 65,535 is never a proper code.
 pub const NONE: u16 = u16::MAX;
@@ -27,6 +28,19 @@ impl Numbers {
     pub const SAT: u32 = 1;
     /// The verdict of a table that no tree makes true.
     pub const UNSAT: u32 = 2;
+}
+
+/// The result of judging a sheet as the boundary gives it. [`judge`](crate::judge) says the same in
+/// Rust's terms.
+#[repr(C)]
+#[derive(Debug, Clone, Copy, PartialEq, Eq, Default)]
+pub struct JudgedNumbers {
+    /// The bytes written, 0 where refused.
+    pub written: u32,
+    /// 1 to 6 or 8 to 10 where refused, else 0.
+    pub refusal: u32,
+    /// The line or row that the refusal is about.
+    pub place: u32,
 }
 
 /// The four slices lent to a call, of any lengths. The call uses the first C places of each and
@@ -58,6 +72,15 @@ mod raw {
             used: *mut u8,
             used_len: usize,
         ) -> super::Numbers;
+
+        pub fn judge(
+            table: *const u8,
+            table_len: usize,
+            sheet: *const u8,
+            sheet_len: usize,
+            out: *mut u8,
+            out_len: usize,
+        ) -> super::JudgedNumbers;
     }
 }
 
@@ -95,6 +118,38 @@ pub fn solve_on(text: &[u8], lent: Slices<'_>) -> Numbers {
             next.len(),
             used.as_mut_ptr(),
             used.len(),
+        )
+    }
+}
+
+/// Judges `sheet` by `table` on borrowed bytes of any number, and gives the bare numbers.
+///
+/// The first `written` bytes of `out` are then one line a node: its number, a tab, 1 or 0 for row 0,
+/// a line feed. The rest is as it was; a refused call leaves all of it as it was.
+///
+/// ```
+/// use host::{judge_on, JudgedNumbers};
+///
+/// let (table, sheet) = (b"is\t1\n", b"0\t1\t-\n1\t-\t-\n");
+/// let mut out = *b"??????????";
+/// let numbers = judge_on(table, sheet, &mut out);
+/// assert_eq!(numbers, JudgedNumbers { written: 8, refusal: 0, place: 0 });
+/// assert_eq!(&out, b"0\t0\n1\t1\n??");
+/// let numbers = judge_on(table, sheet, &mut out[..7]);
+/// assert_eq!(numbers, JudgedNumbers { written: 0, refusal: 8, place: 0 });
+/// ```
+pub fn judge_on(table: &[u8], sheet: &[u8], out: &mut [u8]) -> JudgedNumbers {
+    // SAFETY: each pointer comes from a live slice and goes with that slice's length; `out` is
+    // borrowed apart from both texts; the call keeps none of them and asks nothing of the
+    // contents or the lengths.
+    unsafe {
+        raw::judge(
+            table.as_ptr(),
+            table.len(),
+            sheet.as_ptr(),
+            sheet.len(),
+            out.as_mut_ptr(),
+            out.len(),
         )
     }
 }

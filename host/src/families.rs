@@ -1,6 +1,9 @@
-//! Families of tables that grow with a number, for the benchmark and the comparison tests.
+//! Families of tables that grow with a number, and rules with sheets on which their truth comes from
+//! far, for the benchmark and the comparison tests.
 
 use std::fmt::Write;
+
+use crate::{Sheet, Side};
 
 /// A table under construction: rows are named before they are numbered.
 #[derive(Default)]
@@ -207,4 +210,43 @@ impl Draft {
         self.lines[bit.set] = format!("go 1 {set}");
         self.lines[bit.unset_by_child] = format!("go 1 {unset}");
     }
+}
+
+/// A node of name 1 is met on the way in a direction. For judging: one step of the way is one step of
+/// the truth.
+pub fn on_the_way(direction: usize) -> Vec<u8> {
+    let mut draft = Draft::default();
+    let question = draft.later();
+    let here = draft.is(1);
+    let onwards = draft.go(direction, question);
+    draft.lines[question] = format!("any {here} {onwards}");
+    draft.text()
+}
+
+/// The way in a direction comes to an end, asked by looking to and fro 22 times for each step. For
+/// judging: one step of the way is 47 steps of the truth, through as many of the 48 rows.
+pub fn to_and_fro(direction: usize) -> Vec<u8> {
+    let converse = (direction + 1) % 4 + 1;
+    let mut draft = Draft::default();
+    let question = draft.later();
+    let looks = draft.later();
+    draft.same(looks, looks + 1);
+    for turn in 0..22 {
+        draft.go(direction, looks + 2 * turn + 2);
+        draft.go(converse, looks + 2 * turn + 3);
+    }
+    draft.go(direction, question);
+    let end = draft.row(format!("stop {direction}"));
+    draft.lines[question] = format!("any {looks} {end}");
+    draft.text()
+}
+
+/// A chain of so many first children, all named 0 but the one at `named`, which is 1.
+pub fn chain_sheet(lines: usize, named: usize) -> Sheet {
+    let name = |line: usize| usize::from(line == named);
+    let mut sheet = Sheet::new(name(0)).expect("a name");
+    for line in 1..lines {
+        sheet.add(line - 1, Side::First, name(line));
+    }
+    sheet
 }

@@ -2,14 +2,17 @@
 //!
 //! A *table* is a rule about trees, written as text with one row a line. The solver, linked from
 //! `libsolver.a`, says whether some finite tree makes row 0 true at its top, and shows one of least
-//! height. This crate wraps it in a safe interface:
+//! height. The judge, linked from `libjudge.a`, says at which nodes of a given tree, a *sheet*, row 0
+//! is true. This crate wraps both in a safe interface:
 //!
 //! - [`Memory`] owns the four slices that the solver is lent, and [`solve`] fills them;
 //! - [`Answer`] and [`Refusal`] are the verdict, and say themselves in words;
 //! - [`Tree`] is the shown tree: an iterator over its nodes, and a [`Picture`];
 //! - [`listing`] gives what the program `sheetsat` prints;
-//! - [`solve_on`] is the bare call on four borrowed slices of any lengths;
-//! - [`reference`](mod@reference) is a second solver in Rust, which the tests compare with the first.
+//! - [`judge`] gives the truths at a sheet's lines, and [`Sheet`] makes right sheets;
+//! - [`solve_on`] and [`judge_on`] are the bare calls on borrowed slices of any lengths;
+//! - [`reference`](mod@reference) is a second solver and judge in Rust, which the tests compare with
+//!   the first.
 //!
 //! # Example
 //!
@@ -37,14 +40,16 @@ mod memory;
 mod picture;
 pub mod reference;
 mod refusal;
+mod sheet;
 pub mod table;
 mod tree;
 
 pub use answer::Answer;
-pub use boundary::{solve_on, Numbers, Slices, NONE};
+pub use boundary::{judge_on, solve_on, JudgedNumbers, Numbers, Slices, NONE};
 pub use listing::listing;
 pub use memory::{solve, Memory};
 pub use picture::Picture;
 pub use refusal::{InText, Refusal};
+pub use sheet::{judge, judged_bytes, Line, Sheet, Side};
 pub use table::Table;
 pub use tree::{Node, Nodes, Tree};

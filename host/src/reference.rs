@@ -1,13 +1,18 @@
-//! A second solver, written from the specification alone and as directly as possible. It is
-//! clear rather than fast. The tests compare it with the linked library, number by number and
-//! place by place.
+//! A second solver and a second judge, written from the specification alone and as directly as
+//! possible. They are clear rather than fast. The tests compare them with the linked libraries,
+//! number by number and place by place.
 //!
 //! [`scan`] is a variant that searches the way the library does, for the benchmark.
 
 mod codes;
+mod judge;
 mod loops;
+#[doc(hidden)]
+pub mod nodes;
 mod rounds;
 pub mod scan;
+
+pub use judge::judge_on;
 
 use crate::{table::Table, Answer, Numbers, Refusal, Slices, NONE};
 
@@ -30,8 +35,8 @@ pub fn solve_on(text: &[u8], lent: Slices<'_>) -> Numbers {
     answer.numbers()
 }
 
-/// The table of an accepted text, or the refusal: 1 to 4 by the reader, then 5 to 8.
-fn accept(text: &[u8], lent: &Slices<'_>) -> Result<Table, Refusal> {
+/// The table of a text, or the refusal: 1 to 4 by the reader, then 5 and 6.
+fn sound_table(text: &[u8]) -> Result<Table, Refusal> {
     let table = Table::read(text)?;
     if let Some(row) = loops::smallest_row_with_missing_reference(&table) {
         return Err(Refusal::NoSuchRow { row });
@@ -39,6 +44,12 @@ fn accept(text: &[u8], lent: &Slices<'_>) -> Result<Table, Refusal> {
     if let Some(row) = loops::smallest_row_on_a_loop(&table) {
         return Err(Refusal::Loop { row });
     }
+    Ok(table)
+}
+
+/// The table of a text that is solved, or the refusal: 1 to 6, then 7 and 8.
+fn accept(text: &[u8], lent: &Slices<'_>) -> Result<Table, Refusal> {
+    let table = sound_table(text)?;
     if table.codes() > Table::CODES as u64 {
         return Err(Refusal::TooManyCodes);
     }

@@ -1,10 +1,10 @@
-//! Why a table was refused, in words and with the faulty line.
+//! Why a table or a sheet was refused, in words and with the faulty line.
 
 use std::fmt;
 
 use crate::Table;
 
-/// Why a table was refused. Lines and rows are counted from 0.
+/// Why a table, or a sheet to be judged by it, was refused. Lines and rows are counted from 0.
 #[derive(Debug, Clone, Copy, PartialEq, Eq)]
 pub enum Refusal {
     /// 1: the text has length 0.
@@ -33,8 +33,21 @@ pub enum Refusal {
     },
     /// 7: N × 2^m is above 4,096.
     TooManyCodes,
-    /// 8: a lent slice is shorter than C.
+    /// 8: a lent slice is shorter than what is written there: C numbers by
+    /// [`solve`](crate::solve), a line a node by [`judge_on`](crate::judge_on).
     TooFewPlaces,
+    /// 9: a line of the sheet has a wrong field count, name or number or lacks its line feed; there
+    /// is no line, or a 256th begins.
+    WrongSheetForm {
+        /// The faulty line: the first, 0 where there is none, or 255.
+        line: usize,
+    },
+    /// 10: a line of the sheet names a line that isn't greater or isn't there; or it isn't line 0
+    /// and is named never or more than once.
+    WrongLinks {
+        /// The smallest such line.
+        line: usize,
+    },
 }
 
 impl Refusal {
@@ -57,12 +70,14 @@ impl Refusal {
             6 => Refusal::Loop { row: at },
             7 => Refusal::TooManyCodes,
             8 => Refusal::TooFewPlaces,
+            9 => Refusal::WrongSheetForm { line: at },
+            10 => Refusal::WrongLinks { line: at },
             _ => return None,
         };
         (refusal.place() == at).then_some(refusal)
     }
 
-    /// The refusal's number, 1 to 8.
+    /// The refusal's number, 1 to 10.
     pub fn number(self) -> u32 {
         match self {
             Refusal::NoText => 1,
@@ -73,21 +88,33 @@ impl Refusal {
             Refusal::Loop { .. } => 6,
             Refusal::TooManyCodes => 7,
             Refusal::TooFewPlaces => 8,
+            Refusal::WrongSheetForm { .. } => 9,
+            Refusal::WrongLinks { .. } => 10,
         }
     }
 
-    /// The line or row it is about, 0 where it is about the whole table.
+    /// The line or row it is about, 0 where it is about the whole table or the memory.
     pub fn place(self) -> usize {
         match self {
             Refusal::WrongForm { line } | Refusal::OutOfRange { line } => line,
+            Refusal::WrongSheetForm { line } | Refusal::WrongLinks { line } => line,
             Refusal::NoSuchRow { row } | Refusal::Loop { row } => row,
             Refusal::TooManyLines => Table::ROWS,
             Refusal::NoText | Refusal::TooManyCodes | Refusal::TooFewPlaces => 0,
         }
     }
 
+    /// Whether it is about the sheet: 9 and 10 are, and their lines are the sheet's. All other
+    /// lines and rows are the table's.
+    pub fn is_about_sheet(self) -> bool {
+        matches!(
+            self,
+            Refusal::WrongSheetForm { .. } | Refusal::WrongLinks { .. }
+        )
+    }
+
     /// The faulty line as a part of the caller's text, without its line feed; `None` where the
-    /// refusal is about no line of it.
+    /// refusal is about no line of it. The text is the one that the refusal is about.
     ///
     /// ```
     /// use host::Refusal;
@@ -108,7 +135,8 @@ impl Refusal {
         Some(line.strip_suffix(b"\n").unwrap_or(line))
     }
 
-    /// The refusal together with the faulty line of `text`, to be shown to its author.
+    /// The refusal together with the faulty line of `text`, the one that it is about, to be shown
+    /// to its author.
     ///
     /// Tabs are shown as `\t`, so that a blank in the place of a tab is seen.
     ///
@@ -130,6 +158,30 @@ impl Refusal {
         }
     }
 
+    /// A refusal by [`judge`](crate::judge) together with the faulty line, of the table or of the
+    /// sheet.
+    ///
+    /// ```
+    /// use host::judge;
+    ///
+    /// let (table, sheet) = (b"is\t1\n", b"0\t1\t-\n1\t1\t-\n");
+    /// let refusal = judge(table, sheet).unwrap_err();
+    /// assert_eq!(
+    ///     refusal.in_texts(table, sheet).to_string(),
+    ///     "refused 10 at 1: the sheet's line names a line that isn't greater or isn't there, \
+    ///      or isn't named exactly once\n  \
+    ///      line 1: 1\\t1\\t-"
+    /// );
+    /// ```
+    pub fn in_texts<'a>(self, table: &'a [u8], sheet: &'a [u8]) -> InText<'a> {
+        match self {
+            // What is too short is neither text.
+            Refusal::TooFewPlaces => self.in_text(&[]),
+            _ if self.is_about_sheet() => self.in_text(sheet),
+            _ => self.in_text(table),
+        }
+    }
+
     fn words(self) -> &'static str {
         match self {
             Refusal::NoText => "the text is empty",
@@ -145,7 +197,15 @@ impl Refusal {
                  so its truth would hang on itself"
             }
             Refusal::TooManyCodes => "too many names and looks: names × 2^looks is above 4,096",
-            Refusal::TooFewPlaces => "too few places in memory for this table's codes",
+            Refusal::TooFewPlaces => "too few places in the lent memory for the answer",
+            Refusal::WrongSheetForm { .. } => {
+                "the sheet's line has a wrong field count, name or number or lacks its line feed, \
+                 or the sheet has no line or a 256th"
+            }
+            Refusal::WrongLinks { .. } => {
+                "the sheet's line names a line that isn't greater or isn't there, \
+                 or isn't named exactly once"
+            }
         }
     }
 }

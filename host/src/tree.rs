@@ -1,6 +1,6 @@
 //! The shown tree: what unfolds from the top through `first` and `next`.
 
-use crate::{Picture, NONE};
+use crate::{Picture, Side, NONE};
 
 /// The shown tree of a memory's last call; see [`Memory::tree`](crate::Memory::tree).
 ///
@@ -21,6 +21,8 @@ pub struct Tree<'a> {
 pub struct Node {
     /// Its number in the order of unfolding, the top being 0.
     pub place: usize,
+    /// The place of the node that it hangs from, and on which side; `None` for the top.
+    pub above: Option<(usize, Side)>,
     /// How many parents it has above it: siblings have the same depth.
     pub depth: usize,
     /// How many nodes the chain from the top to it has; the greatest is the tree's height.
@@ -64,6 +66,7 @@ impl<'a> Tree<'a> {
             tree: *self,
             place: 0,
             waiting: vec![Waiting {
+                above: None,
                 code: self.top,
                 depth: 0,
                 level: 1,
@@ -138,18 +141,41 @@ pub struct Nodes<'a> {
 
 #[derive(Debug, Clone, Copy)]
 struct Waiting {
+    above: Option<(usize, Side)>,
     code: u16,
     depth: usize,
     level: usize,
+}
+
+impl Nodes<'_> {
+    /// Lets a node's neighbour, if there is one, wait to be unfolded.
+    fn wait_for(&mut self, node: &Node, neighbour: Option<u16>, side: Side) {
+        let depth = match side {
+            Side::First => node.depth + 1,
+            Side::Next => node.depth,
+        };
+        self.waiting.extend(neighbour.map(|code| Waiting {
+            above: Some((node.place, side)),
+            code,
+            depth,
+            level: node.level + 1,
+        }));
+    }
 }
 
 impl Iterator for Nodes<'_> {
     type Item = Node;
 
     fn next(&mut self) -> Option<Node> {
-        let Waiting { code, depth, level } = self.waiting.pop()?;
+        let Waiting {
+            above,
+            code,
+            depth,
+            level,
+        } = self.waiting.pop()?;
         let node = Node {
             place: self.place,
+            above,
             depth,
             level,
             code,
@@ -158,14 +184,9 @@ impl Iterator for Nodes<'_> {
             next: self.tree.next(code),
         };
         self.place += 1;
-        let level = level + 1;
-        if let Some(code) = node.next {
-            self.waiting.push(Waiting { code, depth, level });
-        }
-        if let Some(code) = node.first {
-            let depth = depth + 1;
-            self.waiting.push(Waiting { code, depth, level });
-        }
+        // What waits last is unfolded first.
+        self.wait_for(&node, node.next, Side::Next);
+        self.wait_for(&node, node.first, Side::First);
         Some(node)
     }
 }

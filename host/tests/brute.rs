@@ -8,48 +8,31 @@ use common::{
     tables::{path, table, text_of, there_and_back, Size},
     Random,
 };
-use host::{solve, table::Row, Answer, Memory, Table, Tree};
+use host::{reference::nodes::NodeList, solve, table::Row, Answer, Memory, Table, Tree};
 
-/// A tree as a list of nodes; the top is node 0.
-#[derive(Clone, Default)]
-struct Sheet {
-    names: Vec<usize>,
-    /// The neighbours of each node in directions 1 to 4, at places 0 to 3.
-    neighbours: Vec<[Option<usize>; 4]>,
+/// The nodes on the longest chain of steps from the top.
+fn height_of(sheet: &NodeList) -> usize {
+    // A child stands behind its parent in the list.
+    let mut levels = vec![1; sheet.names.len()];
+    for (node, neighbours) in sheet.neighbours.iter().enumerate() {
+        for child in neighbours[..2].iter().flatten() {
+            levels[*child] = levels[node] + 1;
+        }
+    }
+    levels.into_iter().max().unwrap_or(0)
 }
 
-impl Sheet {
-    fn one_node(name: usize) -> Sheet {
-        Sheet {
-            names: vec![name],
-            neighbours: vec![[None; 4]],
-        }
-    }
-
-    /// Appends `other` and makes its top the neighbour of `node` in direction 1 or 2.
-    fn attach(&mut self, node: usize, direction: usize, other: &Sheet) {
-        let shift = self.names.len();
-        self.names.extend(&other.names);
-        let moved = |neighbours: &[Option<usize>; 4]| neighbours.map(|n| n.map(|n| n + shift));
-        self.neighbours.extend(other.neighbours.iter().map(moved));
-        self.neighbours[node][direction - 1] = Some(shift);
-        self.neighbours[shift][direction + 1] = Some(node);
-    }
-
-    fn height(&self) -> usize {
-        // A child stands behind its parent in the list.
-        let mut levels = vec![1; self.names.len()];
-        for (node, neighbours) in self.neighbours.iter().enumerate() {
-            for child in neighbours[..2].iter().flatten() {
-                levels[*child] = levels[node] + 1;
-            }
-        }
-        levels.into_iter().max().unwrap_or(0)
-    }
+/// Appends `other` and makes its top the neighbour of the top in direction 1 or 2.
+fn attach(sheet: &mut NodeList, direction: usize, other: &NodeList) {
+    let shift = sheet.names.len();
+    sheet.names.extend(&other.names);
+    let moved = |neighbours: &[Option<usize>; 4]| neighbours.map(|n| n.map(|n| n + shift));
+    sheet.neighbours.extend(other.neighbours.iter().map(moved));
+    sheet.link(0, direction, shift);
 }
 
 /// All trees of at most this height with names below `names`.
-fn all_sheets(height: usize, names: usize) -> Vec<Sheet> {
+fn all_sheets(height: usize, names: usize) -> Vec<NodeList> {
     if height == 0 {
         return Vec::new();
     }
@@ -59,9 +42,9 @@ fn all_sheets(height: usize, names: usize) -> Vec<Sheet> {
     for name in 0..names {
         for first in none_or_one() {
             for next in none_or_one() {
-                let mut sheet = Sheet::one_node(name);
-                first.inspect(|first| sheet.attach(0, 1, first));
-                next.inspect(|next| sheet.attach(0, 2, next));
+                let mut sheet = NodeList::unlinked(vec![name]);
+                first.inspect(|first| attach(&mut sheet, 1, first));
+                next.inspect(|next| attach(&mut sheet, 2, next));
                 sheets.push(sheet);
             }
         }
@@ -69,42 +52,9 @@ fn all_sheets(height: usize, names: usize) -> Vec<Sheet> {
     sheets
 }
 
-/// The truth of every row at every node: from `start` everywhere, the rows are applied until
-/// nothing changes. From false that is the least solution, from true the greatest.
-fn solution(rows: &[Row], sheet: &Sheet, start: bool) -> Vec<Vec<bool>> {
-    let mut truth = vec![vec![start; rows.len()]; sheet.names.len()];
-    loop {
-        let mut changed = false;
-        for node in 0..sheet.names.len() {
-            for row in 0..rows.len() {
-                let now = holds(rows[row], sheet, node, &truth);
-                changed |= now != truth[node][row];
-                truth[node][row] = now;
-            }
-        }
-        if !changed {
-            return truth;
-        }
-    }
-}
-
-fn holds(row: Row, sheet: &Sheet, node: usize, truth: &[Vec<bool>]) -> bool {
-    let neighbour = |direction: usize| sheet.neighbours[node][direction - 1];
-    match row {
-        Row::Yes => true,
-        Row::No => false,
-        Row::Is(name) => sheet.names[node] == name,
-        Row::IsNot(name) => sheet.names[node] != name,
-        Row::Any(i, j) => truth[node][i] || truth[node][j],
-        Row::All(i, j) => truth[node][i] && truth[node][j],
-        Row::Go(direction, i) => neighbour(direction).is_some_and(|there| truth[there][i]),
-        Row::Stop(direction) => neighbour(direction).is_none(),
-    }
-}
-
 /// All trees up to height 3 for one to three names, least heights first.
 struct Forest {
-    by_names: Vec<Vec<Sheet>>,
+    by_names: Vec<Vec<NodeList>>,
 }
 
 impl Forest {
@@ -114,7 +64,7 @@ impl Forest {
     fn new() -> Forest {
         let sheets = |names: usize| {
             let mut sheets = all_sheets(Forest::HEIGHT, names);
-            sheets.sort_by_key(Sheet::height);
+            sheets.sort_by_key(height_of);
             sheets
         };
         Forest {
@@ -126,27 +76,18 @@ impl Forest {
     fn least_height(&self, table: &Table) -> Option<usize> {
         let rows = table.rows();
         let sheets = &self.by_names[table.names() - 1];
-        let fits = |sheet: &&Sheet| solution(rows, sheet, false)[0][0];
-        sheets.iter().find(fits).map(Sheet::height)
+        let fits = |sheet: &&NodeList| sheet.solution(rows, false)[0][0];
+        sheets.iter().find(fits).map(height_of)
     }
 }
 
 /// The shown tree as a list of nodes.
-fn unfolded(tree: &Tree<'_>) -> Sheet {
-    let mut sheet = Sheet::default();
-    // The nodes of which a neighbour is still to come, with the direction that leads there.
-    let mut waiting: Vec<(usize, usize)> = Vec::new();
+fn unfolded(tree: &Tree<'_>) -> NodeList {
+    let names = tree.nodes().map(|node| node.name).collect();
+    let mut sheet = NodeList::unlinked(names);
     for node in tree.nodes() {
-        let single = Sheet::one_node(node.name);
-        match waiting.pop() {
-            Some((from, direction)) => sheet.attach(from, direction, &single),
-            None => sheet = single,
-        }
-        if node.next.is_some() {
-            waiting.push((node.place, 2));
-        }
-        if node.first.is_some() {
-            waiting.push((node.place, 1));
+        if let Some((from, side)) = node.above {
+            sheet.link(from, side.direction(), node.place);
         }
     }
     sheet
@@ -198,10 +139,10 @@ fn check_shown_tree(table: &Table, tree: &Tree<'_>, height: usize, of: impl Fn()
     }
     let sheet = unfolded(tree);
     assert_eq!(sheet.names.len() as u64, tree.size(), "size; {}", of());
-    assert_eq!(sheet.height(), height, "height of the tree; {}", of());
+    assert_eq!(height_of(&sheet), height, "height of the tree; {}", of());
     let levels = tree.nodes().map(|node| node.level);
     assert_eq!(levels.max(), Some(height), "levels; {}", of());
-    let truth = solution(table.rows(), &sheet, false);
+    let truth = sheet.solution(table.rows(), false);
     assert!(truth[0][0], "row 0 is false at the top; {}", of());
     // Each node's code says of each look row whether it is true there.
     for node in tree.nodes() {
@@ -259,7 +200,7 @@ fn accepted_tables_have_one_solution() {
         let refusal = solve(&text, &mut memory)
             .refusal()
             .map(|refusal| refusal.number());
-        let one = |sheet: &Sheet| solution(&rows, sheet, false) == solution(&rows, sheet, true);
+        let one = |sheet: &NodeList| sheet.solution(&rows, false) == sheet.solution(&rows, true);
         let all_one = sheets.iter().all(one);
         if refusal == Some(6) {
             refused_with_two += usize::from(!all_one);

@@ -1,62 +1,17 @@
-//! The edges of the text, with answers worked out by hand from the specification (`data/edges.txt`).
+//! The edges of the texts, with answers worked out by hand from the specification: of tables
+//! (`data/edges.txt`) and of sheets (`data/sheets.txt`).
 
-use host::{solve, Answer, Memory};
+mod common;
 
-/// A text of the page with its marks read: `\t`, `\n`, `\r`, `\0`, `\xHH`, and `[part](N times)`.
-fn text_of(marked: &str) -> Vec<u8> {
-    if marked == "(empty)" {
-        return Vec::new();
-    }
-    let mut text = Vec::new();
-    let mut rest = marked;
-    while let Some(open) = rest.strip_prefix('[') {
-        let (part, after) = open.split_once("](").expect("a repeat has its count");
-        let (count, after) = after.split_once(" times)").expect("a count of times");
-        let part = bytes_of(part);
-        (0..count.parse().expect("a number of times")).for_each(|_| text.extend(&part));
-        rest = after;
-    }
-    text.extend(bytes_of(rest));
-    text
-}
-
-fn bytes_of(marked: &str) -> Vec<u8> {
-    let mut bytes = Vec::new();
-    let mut rest = marked.chars();
-    while let Some(next) = rest.next() {
-        if next != '\\' {
-            bytes.push(next as u8);
-            continue;
-        }
-        bytes.push(match rest.next().expect("a mark goes on") {
-            't' => b'\t',
-            'n' => b'\n',
-            'r' => b'\r',
-            '0' => 0,
-            'x' => u8::from_str_radix(&rest.by_ref().take(2).collect::<String>(), 16)
-                .expect("two digits of 16"),
-            other => panic!("no mark {other}"),
-        });
-    }
-    bytes
-}
-
-/// Each edge: the text as the page marks it, and the answer.
-fn edges() -> impl Iterator<Item = (&'static str, &'static str)> {
-    let page = include_str!("data/edges.txt");
-    page.lines()
-        .filter(|line| !line.is_empty() && !line.starts_with('#') && !line.starts_with("TEXT "))
-        .map(|line| {
-            let (text, rest) = line.split_once("  ").expect("a text and its answer");
-            (text, rest.trim_start().split("  ").next().unwrap_or(""))
-        })
-}
+use common::marked::{edges, text_of};
+use host::{judge_on, judged_bytes, solve, Answer, Memory, Sheet};
 
 #[test]
 fn every_edge_is_answered_as_the_page_says() {
     let mut memory = Memory::largest();
     let mut count = 0;
-    for (marked, expected) in edges() {
+    for edge in edges(include_str!("data/edges.txt")) {
+        let (marked, expected) = (edge[0], edge[1]);
         let answer = solve(&text_of(marked), &mut memory);
         let refused_by_reading = match &answer {
             Answer::Refused(refusal) if refusal.number() <= 4 => {
@@ -67,9 +22,47 @@ fn every_edge_is_answered_as_the_page_says() {
         if expected.starts_with("read ") {
             assert_eq!(refused_by_reading, "", "{marked}");
         } else {
-            assert_eq!(refused_by_reading, expected.trim_end(), "{marked}");
+            assert_eq!(refused_by_reading, expected, "{marked}");
         }
         count += 1;
     }
     assert_eq!(count, 89, "all edges of the page");
+}
+
+/// What `judge` says of a table and a sheet with so many bytes, in the words of the page.
+fn judged(table: &[u8], sheet: &[u8], lent: usize) -> String {
+    let mut out = vec![b'?'; lent];
+    let numbers = judge_on(table, sheet, &mut out);
+    let (written, untouched) = out.split_at(numbers.written as usize);
+    assert!(untouched.iter().all(|byte| *byte == b'?'));
+    if numbers.refusal != 0 {
+        return format!("refused {} {}", numbers.refusal, numbers.place);
+    }
+    let written = String::from_utf8_lossy(written);
+    let digits = written.split_terminator('\n').enumerate();
+    let digits: String = digits
+        .map(|(line, text)| {
+            let digit = text.strip_prefix(&format!("{line}\t"));
+            digit.expect("a line begins with its number")
+        })
+        .collect();
+    format!("judged {digits}")
+}
+
+#[test]
+fn every_sheet_is_judged_as_the_page_says() {
+    let mut count = 0;
+    for edge in edges(include_str!("data/sheets.txt")) {
+        let [table, sheet, lent, expected] = edge[..4] else {
+            panic!("four columns: {edge:?}");
+        };
+        let lent = match lent {
+            "enough" => judged_bytes(Sheet::LINES),
+            bytes => bytes.parse().expect("a number of bytes"),
+        };
+        let answer = judged(&text_of(table), &text_of(sheet), lent);
+        assert_eq!(answer, expected, "{table} on {sheet}");
+        count += 1;
+    }
+    assert_eq!(count, 72, "all sheets of the page");
 }

@@ -6,7 +6,7 @@ use std::{
     process::{Command, Stdio},
 };
 
-use host::{listing, reference, solve, Answer, Memory, Slices};
+use host::{judge_on, listing, reference, solve, Answer, JudgedNumbers, Memory, Slices};
 
 /// The folder in which the page and the folder `examples` stand.
 const ROOT: &str = concat!(env!("CARGO_MANIFEST_DIR"), "/..");
@@ -14,8 +14,12 @@ const PAGE: &str = concat!(env!("CARGO_MANIFEST_DIR"), "/../docs/TABLES.md");
 /// The places that `sheetsat` has.
 const SHEETSAT: usize = 4096;
 
+fn file(path: &str) -> Vec<u8> {
+    fs::read(format!("{ROOT}/{path}")).expect("an example can be read")
+}
+
 fn example(name: &str) -> Vec<u8> {
-    fs::read(format!("{ROOT}/examples/{name}.tbl")).expect("an example can be read")
+    file(&format!("examples/{name}.tbl"))
 }
 
 /// The library's answer, which is the reference's as well.
@@ -86,10 +90,34 @@ fn blocks(page: &str) -> Vec<Block<'_>> {
     blocks
 }
 
-/// What a command of the page prints, with this table on its standard input.
-fn printed(command: &str, table: &[u8]) -> String {
+/// What `sheetjudge` prints of a table and a sheet, by the library and by the reference.
+fn judged(table: &[u8], sheet: &[u8]) -> String {
+    let (mut out, mut same) = ([0; 1420], [0; 1420]);
+    let JudgedNumbers {
+        written,
+        refusal,
+        place,
+    } = judge_on(table, sheet, &mut out);
+    let numbers = reference::judge_on(table, sheet, &mut same);
+    assert_eq!((written, refusal, place), (numbers.written, numbers.refusal, numbers.place));
+    assert_eq!(out, same);
+    if refusal != 0 {
+        return format!("refused\t{refusal}\t{place}\n");
+    }
+    String::from_utf8(out[..written as usize].to_vec()).expect("judge writes text")
+}
+
+/// What a command of the page prints, with this table on its standard input; `this.sheet` is the sheet above it.
+fn printed(command: &str, table: &[u8], sheet: &[u8]) -> String {
     if command == "sheetsat" {
         return listing(table, &mut Memory::with_places(SHEETSAT));
+    }
+    if let Some(names) = command.strip_prefix("sheetjudge ") {
+        let (rule, lines) = names.split_once(' ').expect("two file names");
+        return match lines {
+            "this.sheet" => judged(&file(rule), sheet),
+            _ => judged(&file(rule), &file(lines)),
+        };
     }
     let planner = std::path::Path::new(env!("CARGO_BIN_EXE_planner"));
     let folder = planner.parent().expect("a program is in a folder");
@@ -118,7 +146,7 @@ fn text_of(lines: &[&str]) -> Vec<u8> {
 #[test]
 fn the_page_shows_true_answers() {
     let page = fs::read_to_string(PAGE).expect("the page can be read");
-    let mut table = Vec::new();
+    let (mut table, mut sheet) = (Vec::new(), Vec::new());
     let mut commands = 0;
     for block in blocks(&page) {
         match block.word {
@@ -126,11 +154,12 @@ fn the_page_shows_true_answers() {
                 table = text_of(&block.lines);
                 answer_of(&table);
             }
+            "sheet" => sheet = text_of(&block.lines),
             "console" => {
                 let command = block.lines[0].strip_prefix("$ ").expect("a command");
                 let shown = text_of(&block.lines[1..]);
                 let shown = String::from_utf8(shown).expect("the page is text");
-                assert_eq!(printed(command, &table), shown, "{command}");
+                assert_eq!(printed(command, &table, &sheet), shown, "{command}");
                 commands += 1;
             }
             _ => {}
@@ -139,26 +168,30 @@ fn the_page_shows_true_answers() {
     assert!(commands >= 20, "only {commands} commands were found");
 }
 
-/// An example is shown row by row with a remark behind each; the rows must be the file's.
+/// An example is shown row by row with a remark behind each; the rows must be those of the file that the next command names.
 #[test]
 fn the_page_shows_the_examples_as_they_are() {
     let page = fs::read_to_string(PAGE).expect("the page can be read");
     let blocks = blocks(&page);
     let mut shown = 0;
-    for pair in blocks.windows(2).filter(|pair| pair[0].word == "text") {
-        let name = pair[1].lines[0].strip_prefix("$ planner examples/");
-        let name = name
-            .and_then(|name| name.strip_suffix(".tbl"))
-            .expect("an example");
-        let rows = pair[0].lines.iter().enumerate().map(|(row, line)| {
+    for (at, block) in blocks.iter().enumerate() {
+        let ending = match block.word {
+            "text" => ".tbl",
+            "lines" => ".sheet",
+            _ => continue,
+        };
+        let command = blocks[at..].iter().find(|block| block.word == "console");
+        let mut words = command.expect("a command").lines[0].split(' ');
+        let name = words.find(|word| word.ends_with(ending)).expect("a file");
+        let rows = block.lines.iter().enumerate().map(|(row, line)| {
             let (number, rest) = line.trim_start().split_once("  ").expect("a number");
             assert_eq!(number, row.to_string(), "{name}");
             rest.split("  ").next().expect("a row").replace(' ', "\t")
         });
         let rows: Vec<String> = rows.collect();
         let rows: Vec<&str> = rows.iter().map(String::as_str).collect();
-        assert_eq!(text_of(&rows), example(name), "{name}");
+        assert_eq!(text_of(&rows), file(name), "{name}");
         shown += 1;
     }
-    assert_eq!(shown, 6);
+    assert_eq!(shown, 8);
 }

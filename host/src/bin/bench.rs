@@ -1,12 +1,23 @@
-//! Times the linked library and the reference doing the same scan, in the same run and on the
-//! same texts and memory: `cargo run --release --bin bench`.
+//! Times the linked libraries and the reference, in the same run and on the same texts and memory:
+//! `cargo run --release --bin bench`, with `solve` or `judge` behind it for one of the two alone.
 //!
-//! The four slices are used again from call to call and are not cleared in between: clearing
-//! their first C places is the solver's own work and is timed with it.
+//! `solve` is measured against the reference doing the same scan. The four slices are used again
+//! from call to call and are not cleared in between: clearing their first C places is the solver's
+//! own work and is timed with it.
+//!
+//! `judge` is measured against the reference's naive evaluator, on chains where the truth at one end
+//! comes from the other. Reading both texts and the loop test are timed with it on both sides.
 
-use std::time::{Duration, Instant};
+use std::{
+    env,
+    process::ExitCode,
+    time::{Duration, Instant},
+};
 
-use host::{families, reference::scan, solve_on, Numbers, Slices, Table, NONE};
+use host::{
+    families, judge_on, judged_bytes, reference, reference::scan, solve_on, JudgedNumbers, Numbers,
+    Sheet, Slices, Table, NONE,
+};
 
 /// A family of tables with the sizes that are timed.
 struct Family {
@@ -69,10 +80,6 @@ struct Bench {
 }
 
 impl Bench {
-    /// A table is solved again until this long has passed, at most [`Bench::RUNS`] times.
-    const ENOUGH: Duration = Duration::from_millis(100);
-    const RUNS: usize = 100;
-
     fn new() -> Bench {
         Bench {
             round: vec![0; Table::CODES],
@@ -82,27 +89,36 @@ impl Bench {
         }
     }
 
-    /// The shortest time of several runs, in milliseconds, and the result.
     fn time(&mut self, text: &[u8], solver: Solver) -> (f64, Numbers) {
-        let begin = Instant::now();
-        let mut shortest = Duration::MAX;
-        let mut numbers = Numbers::default();
-        for _ in 0..Bench::RUNS {
+        shortest(|| {
             let lent = Slices {
                 round: &mut self.round,
                 first: &mut self.first,
                 next: &mut self.next,
                 used: &mut self.used,
             };
-            let start = Instant::now();
-            numbers = solver(text, lent);
-            shortest = shortest.min(start.elapsed());
-            if begin.elapsed() >= Bench::ENOUGH {
-                break;
-            }
-        }
-        (shortest.as_secs_f64() * 1e3, numbers)
+            solver(text, lent)
+        })
     }
+}
+
+/// A call is made again until this long has passed, at most [`RUNS`] times.
+const ENOUGH: Duration = Duration::from_millis(100);
+const RUNS: usize = 100;
+
+/// The shortest time of several runs, in milliseconds, and the last result.
+fn shortest<T>(mut run: impl FnMut() -> T) -> (f64, T) {
+    let begin = Instant::now();
+    let mut shortest = Duration::MAX;
+    for number in 1.. {
+        let start = Instant::now();
+        let result = run();
+        shortest = shortest.min(start.elapsed());
+        if number == RUNS || begin.elapsed() >= ENOUGH {
+            return (shortest.as_secs_f64() * 1e3, result);
+        }
+    }
+    unreachable!("runs are counted")
 }
 
 fn verdict(numbers: Numbers) -> String {
@@ -113,16 +129,16 @@ fn verdict(numbers: Numbers) -> String {
     }
 }
 
-/// The p for which the time grew as C^p, from the size before.
-fn growth(before: Option<(f64, f64)>, (codes, time): (f64, f64)) -> String {
-    before.map_or("-".to_string(), |(codes_before, time_before)| {
-        let p = (time / time_before).ln() / (codes / codes_before).ln();
-        format!("C^{p:.2}")
+/// The p for which the time grew as the size to the power of p, from the size before.
+fn growth(before: Option<(f64, f64)>, (size, time): (f64, f64)) -> String {
+    before.map_or("-".to_string(), |(size_before, time_before)| {
+        let p = (time / time_before).ln() / (size / size_before).ln();
+        format!("^{p:.2}")
     })
 }
 
 /// Times one family, prints a line for each size, and gives the ratios.
-fn run(family: &Family, bench: &mut Bench) -> Vec<f64> {
+fn solve_family(family: &Family, bench: &mut Bench) -> Vec<f64> {
     let mut ratios = Vec::new();
     let mut before = None;
     for size in family.sizes {
@@ -152,20 +168,113 @@ fn run(family: &Family, bench: &mut Bench) -> Vec<f64> {
     ratios
 }
 
-fn main() {
+/// A rule with the chains that it is judged on.
+struct Judging {
+    name: &'static str,
+    table: fn(usize) -> Vec<u8>,
+    /// The direction in which the rule looks: 1 down the chain, 3 up.
+    direction: usize,
+}
+
+const JUDGINGS: [Judging; 4] = [
+    Judging {
+        name: "down the chain",
+        table: families::on_the_way,
+        direction: 1,
+    },
+    Judging {
+        name: "up the chain",
+        table: families::on_the_way,
+        direction: 3,
+    },
+    Judging {
+        name: "to and fro down",
+        table: families::to_and_fro,
+        direction: 1,
+    },
+    Judging {
+        name: "to and fro up",
+        table: families::to_and_fro,
+        direction: 3,
+    },
+];
+
+/// The lines of the chains; the last is the full sheet.
+const CHAINS: [usize; 4] = [16, 64, 128, Sheet::LINES];
+
+type Judge = fn(&[u8], &[u8], &mut [u8]) -> JudgedNumbers;
+
+/// Times one rule, prints a line for each chain, and gives the ratios.
+fn judge_family(judging: &Judging) -> Vec<f64> {
+    let table = (judging.table)(judging.direction);
+    let rows = Table::read(&table).map_or(0, |table| table.rows().len());
+    let mut out = vec![0; judged_bytes(Sheet::LINES)];
+    let mut ratios = Vec::new();
+    let mut before = None;
+    for lines in CHAINS {
+        let end = if judging.direction == 1 { lines - 1 } else { 0 };
+        let sheet = families::chain_sheet(lines, end).text();
+        let mut time = |judge: Judge| shortest(|| judge(&table, &sheet, &mut out));
+        let (library, numbers) = time(judge_on);
+        let (reference, expected) = time(reference::judge_on);
+        assert_eq!(numbers, expected, "{} {lines}", judging.name);
+        let now = (lines as f64, library);
+        let ratio = library / reference;
+        println!(
+            "{:<16}{rows:>5}{lines:>6}{:>12.3}{:>13.3}{:>8.2}{:>9}",
+            judging.name,
+            library,
+            reference,
+            ratio,
+            growth(before, now)
+        );
+        before = Some(now);
+        ratios.push(ratio);
+    }
+    ratios
+}
+
+fn bench_solve() {
     println!(
         "{:<16}{:>4}{:>4}{:>4}{:>7}  {:<9}{:>12}{:>13}{:>8}{:>9}",
         "family", "size", "N", "m", "C", "answer", "library ms", "reference ms", "ratio", "growth"
     );
-    let begin = Instant::now();
     let mut bench = Bench::new();
-    let ratios: Vec<f64> = FAMILIES
-        .iter()
-        .flat_map(|family| run(family, &mut bench))
-        .collect();
+    let families = FAMILIES.iter();
+    summary(families.flat_map(|family| solve_family(family, &mut bench)));
+    println!("growth is of the library's time against C, from the size before\n");
+}
+
+fn bench_judge() {
+    println!(
+        "{:<16}{:>5}{:>6}{:>12}{:>13}{:>8}{:>9}",
+        "rule", "rows", "lines", "library ms", "reference ms", "ratio", "growth"
+    );
+    summary(JUDGINGS.iter().flat_map(judge_family));
+    println!("growth is of the library's time against the lines, from the chain before\n");
+}
+
+fn summary(ratios: impl Iterator<Item = f64>) {
+    let ratios: Vec<f64> = ratios.collect();
     let mean = (ratios.iter().map(|ratio| ratio.ln()).sum::<f64>() / ratios.len() as f64).exp();
     let worst = ratios.iter().copied().fold(0.0, f64::max);
     println!("\nratio is library / reference: geometric mean {mean:.2}, worst {worst:.2}");
-    println!("growth is of the library's time against C, from the size before");
+}
+
+fn main() -> ExitCode {
+    let begin = Instant::now();
+    match env::args().nth(1).as_deref() {
+        Some("solve") => bench_solve(),
+        Some("judge") => bench_judge(),
+        None => {
+            bench_solve();
+            bench_judge();
+        }
+        Some(_) => {
+            eprintln!("usage: bench [solve|judge]");
+            return ExitCode::from(2);
+        }
+    }
     println!("whole run {:.1} s", begin.elapsed().as_secs_f64());
+    ExitCode::SUCCESS
 }

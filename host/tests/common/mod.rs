@@ -1,8 +1,11 @@
-//! What several tests share: random numbers, and tables made from them.
+//! What several tests share: random numbers, tables and sheets made from them, and pages of edges.
 
 #![allow(dead_code)] // each test file uses its own part of this one
 
 pub mod both;
+pub mod judged;
+pub mod marked;
+pub mod sheets;
 pub mod tables;
 
 /// Random numbers by splitmix64: the same seed gives the same run.

@@ -1,6 +1,6 @@
 //! Random tables: valid ones, ones near a loop, ones at a limit, and damaged ones.
 
-use host::table::Row;
+use host::{table::Row, Table};
 
 use super::Random;
 
@@ -124,6 +124,55 @@ pub fn path(random: &mut Random, names: usize) -> Vec<Row> {
     }
     rows.push(Row::Is(random.below(names)));
     rows
+}
+
+/// A table without a loop in which most rows look, too many for the solver if it is large. Either
+/// all references point forwards; or the rows before a place look down, those from it on look up
+/// and never back before it.
+pub fn looking(random: &mut Random, rows: usize, names: usize) -> Vec<Row> {
+    let forwards = random.chance(1, 3);
+    let turn = random.below(rows + 1);
+    let mut table = Vec::new();
+    for at in 0..rows {
+        let onwards = |random: &mut Random| random.between(at + 1, rows - 1);
+        let (directions, least) = match (forwards, at < turn) {
+            (true, _) => (&[1, 2, 3, 4][..], at + 1),
+            (_, true) => (&[1, 2][..], 0),
+            (_, false) => (&[3, 4][..], turn),
+        };
+        table.push(match random.below(10) {
+            0..=5 if least < rows => {
+                Row::Go(random.pick(directions), random.between(least, rows - 1))
+            }
+            6 if at + 1 < rows => Row::All(onwards(random), onwards(random)),
+            7..=8 if at + 1 < rows => Row::Any(onwards(random), onwards(random)),
+            _ => leaf(random, names),
+        });
+    }
+    table
+}
+
+/// A table of any of several makes; few of them have a loop.
+pub fn some_table(random: &mut Random) -> Vec<u8> {
+    let names = random.between(1, 4);
+    let rows = match random.below(8) {
+        0 => near_loop(random),
+        1..=2 => path(random, names),
+        3..=4 => there_and_back(random, names),
+        5 => {
+            let rows = random.between(1, Table::ROWS + 2);
+            looking(random, rows, names)
+        }
+        _ => {
+            let size = Size {
+                rows: random.between(1, 12),
+                names,
+                looks: 12,
+            };
+            table(random, size)
+        }
+    };
+    text_of(&rows)
 }
 
 /// A ring of looks whose directions cancel, or nearly: one direction may be turned.
