@@ -16,7 +16,8 @@ use Rattle.sheets.proofs.Tree.Sheet.{sheet-tree}
 use Rattle.truths.specs.Cells.{found}
 use Rattle.truths.specs.Decided.{Decided}
 use Rattle.judge.specs.Judging.{Numbers, JudgesLines, too-few, judged}
-use Rattle.judge.specs.Output.{verdict-lines, digitsOf, OutputLength, Written}
+use Rattle.judge.specs.Output.{verdict-lines}
+use Rattle.judge.specs.Writing.{digitsOf, OutputLength, Written}
 use Rattle.judge.specs.Ready.{Ready}
 use Rattle.judge.specs.Verdicts.{DigitIs, is-true, is-false, Verdicts}
 use Rattle.judge.specs.declared.Judged.{Judged}

@@ -6,7 +6,7 @@ use native.Mathlib.Numerals.{add-one}
 use native.Mathlib.Omega.{arith}
 use lib.ListN.{length, drop, take, set, length-append}
 use lib.Seq.{set-split, length-take-le, take-at, drop-at, drop-drop}
-use Rattle.judge.specs.Output.{Put}
+use Rattle.judge.specs.Writing.{Put}
 
 -- A store puts one byte.
 pub put-one : (old : List ℕ) (at byte : ℕ) → at < length old → Put at (byte ∷ []) old (set old at byte) (at + 1)

@@ -10,7 +10,8 @@ use lib.ListN.{length, getD, length-append}
 use Rattle.table.specs.Written.{tab, line-feed, decimal}
 use Rattle.sheets.specs.Written.{numeral}
 use Rattle.truths.specs.Cells.{found}
-use Rattle.judge.specs.Output.{verdict-line, verdict-lines, digitsOf}
+use Rattle.judge.specs.Output.{verdict-line, verdict-lines}
+use Rattle.judge.specs.Writing.{digitsOf}
 
 pub decimal-one : (n : ℕ) → n < 10 → decimal n ≡ (48 + n) ∷ []
 unfolding decimal

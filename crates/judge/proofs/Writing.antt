@@ -8,7 +8,8 @@ use native.Mathlib.Omega.{arith}
 use lib.ListN.{length}
 use Rattle.sheets.specs.Lines.{line-limit}
 use Rattle.truths.specs.Cells.{found}
-use Rattle.judge.specs.Output.{verdict-line, verdict-lines, digitsOf, Put, Written}
+use Rattle.judge.specs.Output.{verdict-line, verdict-lines}
+use Rattle.judge.specs.Writing.{digitsOf, Put, Written}
 use Rattle.judge.proofs.Puts.{Partly, partly-all}
 use Rattle.judge.proofs.Verdicts.{output-length, length-digits}
 

@@ -8,7 +8,9 @@ ghost use Rattle.table.specs.Written.{decimal};
 ghost use Rattle.sheets.specs.Lines.{line-limit};
 ghost use Rattle.sheets.specs.Written.{numeral};
 ghost use Rattle.truths.specs.Cells.{found};
-ghost use Rattle.judge.specs.Output.{verdict-line, verdict-lines, digitsOf, Put, OutputLength, Written};
+ghost use Rattle.judge.specs.Output.{verdict-line, verdict-lines, output-limit};
+ghost use Rattle.judge.specs.Writing.{digitsOf, Put, OutputLength, Written};
+use crate::OUTPUT;
 use table::Table;
 use truths::CELLS;
 
@@ -16,6 +18,7 @@ use truths::CELLS;
 pub(crate) fn length_of(n: usize) -> usize
     requires { ⌜ n ≤ line-limit ⌝ }
     ensures { λ r. ⌜ OutputLength n r ⌝ }
+    ensures limit { λ r. do ⌜ (← ⟦OUTPUT⟧ .entry) ≡ output-limit ⌝ }
 {
     4 * n + lines_from(10, n) + lines_from(100, n)
 }

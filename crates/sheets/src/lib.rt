@@ -22,7 +22,7 @@ pub struct Line {
 }
 
 // A line takes one number, so that a sheet is lent as one slice and is never copied.
-pub fn cell_of(line: Line) -> u32
+pub(crate) fn cell_of(line: Line) -> u32
     requires { ⌜ Right line ⌝ }
     ensures { λ r. ⌜ lineOf r ≡ line ⌝ }
 {
@@ -81,7 +81,7 @@ impl Sheet {
     }
 
     // The sheet with one line more, or as it is where it is full.
-    pub fn with_line(self, line: Line) -> Sheet
+    pub(crate) fn with_line(self, line: Line) -> Sheet
         requires { ⌜ Right line ⌝ }
         ensures { λ r. ⌜ Extended self line r ⌝ }
     {

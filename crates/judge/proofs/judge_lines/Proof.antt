@@ -14,7 +14,7 @@ refused-requires c κs = search needs
 returns : tie.Need-returns
 returns c =
     let a = c .before .before .before .before .before .before in
-    no-room (a .args .cells .now) (a .args .lines .now) (a .pre) _ _ (c .refused .result) _ (c .before .before .length-of .ensures) (c .before .if1 .taken) (c .refused .ensures) (search needs)
+    no-room (a .args .cells .now) (a .args .lines .now) (a .pre) _ _ (c .refused .result) _ (c .before .before .length-of .ensures .0) (c .before .if1 .taken) (c .refused .ensures) (search needs)
 
 truths-of-requires : tie.Need-truths-of-requires
 truths-of-requires c κs =
@@ -27,7 +27,7 @@ write-requires c κs =
     let s = c .before .before .before in
     let l = s .before in
     let a = l .before .before .before .before in
-    (a .pre .few-lines, has-room (a .args .cells .now) (a .args .lines .now) (a .pre) _ _ _ (l .length-of .ensures) (s .if1 .left))
+    (a .pre .few-lines, has-room (a .args .cells .now) (a .args .lines .now) (a .pre) _ _ _ (l .length-of .ensures .0) (s .if1 .left))
 
 cast-t14 : tie.Need-cast-t14
 cast-t14 c = search needs
@@ -41,7 +41,7 @@ returns-2 c =
     let t = w .before .before .before in
     let l = t .before .before in
     let a = l .before .before .before .before in
-    writes (a .args .cells .now) (a .args .lines .now) (a .pre) _ _ _ _ (t .truths-of .ensures) _ _ (w .write .ensures) (l .length-of .ensures) (t .before .if1 .left) (record { written-is = refl; refusal-is = refl; place-is = refl })
+    writes (a .args .cells .now) (a .args .lines .now) (a .pre) _ _ _ _ (t .truths-of .ensures) _ _ (w .write .ensures) (l .length-of .ensures .0) (t .before .if1 .left) (record { written-is = refl; refusal-is = refl; place-is = refl })
 
 pub judge-lines-spec : {M : Type 1} → statement M
 judge-lines-spec =

@@ -1,5 +1,6 @@
 -- The lines' bytes are counted by their numbers' widths, and the digits add nothing to them.
 use native.Mathlib.Omega.{arith}
+use mathlib.Core.Path.{refl}
 use Rattle.judge.proofs.Verdicts.{output-length}
 use borrow.Author.Needs.{needs}
 use Rattle.judge.proofs.output.length_of.Statement.{statement}
@@ -21,7 +22,8 @@ add-result-2 : tie.Need-add-result-2
 add-result-2 c = search needs
 
 returns : tie.Need-returns
-returns c = record { lines = λ bs e. omega (arith, output-length bs, c .before .lines-from .ensures, c .lines-from2 .ensures); few = omega arith }
+returns c =
+    (record { lines = λ bs e. omega (arith, output-length bs, c .before .lines-from .ensures, c .lines-from2 .ensures); few = omega arith }, refl)
 
 pub length-of-spec : {M : Type 1} → statement M
 length-of-spec =

@@ -5,7 +5,8 @@ use native.Mathlib.Nat.{sub-zero}
 use native.Mathlib.Omega.{arith}
 use lib.ListN.{length}
 use Rattle.truths.specs.Cells.{found}
-use Rattle.judge.specs.Output.{verdict-line, verdict-lines, digitsOf}
+use Rattle.judge.specs.Output.{verdict-line, verdict-lines}
+use Rattle.judge.specs.Writing.{digitsOf}
 use Rattle.judge.proofs.Puts.{Partly, partly-none, partly-room, partly-more}
 use Rattle.judge.proofs.Writing.{digit-small, lines-next, lines-last}
 use borrow.Author.Needs.{needs}
