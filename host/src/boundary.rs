@@ -105,7 +105,8 @@ pub fn solve_on(text: &[u8], lent: Slices<'_>) -> Numbers {
     } = lent;
     // SAFETY: each pointer comes from a live slice and goes with that slice's length; the four
     // mutable slices are borrowed apart from each other and from the text; the call keeps none
-    // of them and asks nothing of the contents or the lengths.
+    // of them and asks nothing of the contents or the lengths. An empty slice's pointer goes with
+    // length 0 and is not read.
     unsafe {
         raw::solve(
             text.as_ptr(),
@@ -139,9 +140,10 @@ pub fn solve_on(text: &[u8], lent: Slices<'_>) -> Numbers {
 /// assert_eq!(numbers, JudgedNumbers { written: 0, refusal: 8, place: 0 });
 /// ```
 pub fn judge_on(table: &[u8], sheet: &[u8], out: &mut [u8]) -> JudgedNumbers {
-    // SAFETY: each pointer comes from a live slice and goes with that slice's length; `out` is
-    // borrowed apart from both texts; the call keeps none of them and asks nothing of the
-    // contents or the lengths.
+    // SAFETY: each pointer comes from a live slice and goes with that slice's length; the texts
+    // are only read, and may be one and the same; `out` is borrowed apart from both; the call keeps
+    // none of them and asks nothing of the contents or the lengths. An empty slice's pointer goes
+    // with length 0 and is not read.
     unsafe {
         raw::judge(
             table.as_ptr(),

@@ -210,6 +210,17 @@ impl Refusal {
     }
 }
 
+/// A refusal is an error like any other, so that `?` hands it on.
+///
+/// ```
+/// fn first(table: &[u8], sheet: &[u8]) -> Result<bool, Box<dyn std::error::Error>> {
+///     Ok(host::judge(table, sheet)?[0])
+/// }
+/// assert!(first(b"yes\n", b"0\t-\t-\n").unwrap());
+/// assert!(first(b"yes\n", b"").is_err());
+/// ```
+impl std::error::Error for Refusal {}
+
 impl fmt::Display for Refusal {
     fn fmt(&self, f: &mut fmt::Formatter<'_>) -> fmt::Result {
         let (number, place) = (self.number(), self.place());

@@ -6,7 +6,7 @@ use std::{
     process::{Command, Stdio},
 };
 
-use host::{judge_on, listing, reference, solve, Answer, JudgedNumbers, Memory, Slices};
+use host::{judge_on, judged_bytes, listing, reference, solve, Answer, Memory, Sheet, Slices};
 
 /// The folder in which the page and the folder `examples` stand.
 const ROOT: &str = concat!(env!("CARGO_MANIFEST_DIR"), "/..");
@@ -92,19 +92,16 @@ fn blocks(page: &str) -> Vec<Block<'_>> {
 
 /// What `sheetjudge` prints of a table and a sheet, by the library and by the reference.
 fn judged(table: &[u8], sheet: &[u8]) -> String {
-    let (mut out, mut same) = ([0; 1420], [0; 1420]);
-    let JudgedNumbers {
-        written,
-        refusal,
-        place,
-    } = judge_on(table, sheet, &mut out);
-    let numbers = reference::judge_on(table, sheet, &mut same);
-    assert_eq!((written, refusal, place), (numbers.written, numbers.refusal, numbers.place));
+    let mut out = vec![0; judged_bytes(Sheet::LINES)];
+    let mut same = out.clone();
+    let numbers = judge_on(table, sheet, &mut out);
+    assert_eq!(numbers, reference::judge_on(table, sheet, &mut same));
     assert_eq!(out, same);
-    if refusal != 0 {
-        return format!("refused\t{refusal}\t{place}\n");
+    if numbers.refusal != 0 {
+        return format!("refused\t{}\t{}\n", numbers.refusal, numbers.place);
     }
-    String::from_utf8(out[..written as usize].to_vec()).expect("judge writes text")
+    out.truncate(numbers.written as usize);
+    String::from_utf8(out).expect("judge writes text")
 }
 
 /// What a command of the page prints, with this table on its standard input; `this.sheet` is the sheet above it.
@@ -194,4 +191,13 @@ fn the_page_shows_the_examples_as_they_are() {
         shown += 1;
     }
     assert_eq!(shown, 8);
+}
+
+/// The gate runs `sheetjudge` on copies of two examples, since a program sees nothing but its own folder.
+#[test]
+fn sheetjudge_runs_on_the_examples() {
+    for name in ["outlet-compared-abroad.tbl", "last-week.sheet"] {
+        let copy = file(&format!("crates/sheetjudge/data/{name}"));
+        assert_eq!(copy, file(&format!("examples/{name}")), "{name}");
+    }
 }

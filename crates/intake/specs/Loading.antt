@@ -1,7 +1,7 @@
 -- 01, section 6: what a text gives, an accepted table or one of refusals 1 to 7 with its place.
 use Prim.Native.Nat.{ℕ, _<_, _≤_}
 use mathlib.Core.Bool.{Bool, true, false, cond}
-use mathlib.Core.List.{List, [], map}
+use mathlib.Core.List.{List, map}
 use mathlib.Core.Path.{_≡_}
 use lib.ListN.{length}
 use Rattle.meaning.specs.Table as M
@@ -68,6 +68,13 @@ pub record Judges (sized : Bool) (t : Table) (r : Loaded) : Type 0 where
   pub judged : Judged (table (rowsOf t)) verdict
   pub says : Says (numbered sized (rowsOf t) verdict) r
 
+-- A table that refusals 1, 3, 5 and 6 let pass: `Accepted` but for its size.
+pub record Admissible (rows : M.Table) : Type 0 where
+  pub some-row : 0 < length rows
+  pub few-rows : length rows ≤ M.row-limit
+  pub in-range : M.InRange rows
+  pub loop-free : LoopFree rows
+
 -- What is proved of it: each text has an answer and no other; an accepted table meets all that the theorems of `meaning` ask, and its names
 -- and directions exist.
 pub record OneAnswer (text : List ℕ) : Type 0 where
@@ -76,13 +83,6 @@ pub record OneAnswer (text : List ℕ) : Type 0 where
   pub unique : {a b : Reading} → Loads text a → Loads text b → a ≡ b
   pub accepted : (rows : List Row) → Loads text (rows-read rows) → Accepted (table rows) × Sound rows
   pub small : (n p : ℕ) → Loads text (refused n p) → (0 < n) × (n < 8) × (p ≤ M.row-limit)
-
--- A table that refusals 3, 5 and 6 let pass: `Accepted` but for its size.
-pub record Admissible (rows : M.Table) : Type 0 where
-  pub some-row : 0 < length rows
-  pub few-rows : length rows ≤ M.row-limit
-  pub in-range : M.InRange rows
-  pub loop-free : LoopFree rows
 
 -- The same of `admit`.
 pub record OneAdmission (text : List ℕ) : Type 0 where

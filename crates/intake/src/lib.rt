@@ -1,10 +1,10 @@
-// Refusals 1 to 7: from a text to an accepted table.
+// Refusals 1 to 7, or 1 to 6 for whoever does not search: from a text to a table.
 use loops::Checked;
 use table::Table;
 ghost use Rattle.intake.specs.Loading.{Accepts, Refuses, Answered, Judges};
 ghost use mathlib.Core.Bool.{true, false};
 ghost use mathlib.Core.Path.{_≡_};
-ghost use Rattle.table.specs.Rows.{rowsOf, tableOf};
+ghost use Rattle.table.specs.Rows.{rowsOf};
 ghost use lib.ListN.{length};
 
 // A table, with refusal 0; or a refusal and its place, with no row.

@@ -10,8 +10,9 @@ use Rattle.meaning.specs.Truth.{TrueAt}
 use Rattle.table.specs.Decides.{Decides}
 use Rattle.table.specs.Rows.{rowOf, meant, tableIn}
 use Rattle.table.proofs.Decides.{refuted}
-use Rattle.sheets.specs.Lines.{lineOf, linesIn}
+use Rattle.sheets.specs.Lines.{linesIn}
 use Rattle.sheets.specs.Tree.{At, SheetTree}
+use Rattle.sheets.proofs.Counting.{lines-long}
 use Rattle.sheets.proofs.Tree.Sheet.{sheet-tree}
 use Rattle.truths.specs.Cells.{found}
 use Rattle.truths.specs.Decided.{Decided}
@@ -34,7 +35,7 @@ table-few cells h = omega (arith, length-map cells rowOf, length-map (map rowOf 
 
 module _ (cells lines : List ℕ) (ready : Ready cells lines) where
   count : length (linesIn lines) ≡ length lines
-  count = length-map lines lineOf
+  count = lines-long lines
 
   grown : (t : Tree) × SheetTree (linesIn lines) t
   grown = sheet-tree (linesIn lines) (omega (arith, count, ready .some-line)) (ready .fault-free)

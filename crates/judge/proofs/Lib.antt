@@ -3,7 +3,7 @@ pub mod Verdicts
 pub mod Writing
 pub mod OneVerdict
 pub mod Judging
-pub mod Sheets
+pub mod Answers
 pub mod One
 pub mod Some
 pub mod Theorems

@@ -1,5 +1,5 @@
 -- Two outcomes of one table and one sheet with the same memory lent are the same.
-use Prim.Native.Nat.{ℕ, _<_, _≤_}
+use Prim.Native.Nat.{ℕ}
 use native.Mathlib.Omega.{arith}
 use mathlib.Core.List.{List, _++_}
 use mathlib.Core.Path.{_≡_, refl, ap, sym, subst, _∙_}
@@ -7,17 +7,14 @@ use lib.ListN.{length, drop}
 use Rattle.meaning.specs.Table.{Table}
 use Rattle.meaning.specs.Tree.{Tree}
 use Rattle.table.specs.declared.Row.{Row}
-use Rattle.reader.specs.Reading.{Reading, rows-read, refused}
-use Rattle.intake.specs.Loading.{Admits, table}
+use Rattle.intake.specs.Loading.{table}
 use Rattle.intake.proofs.Theorems.{one-admission}
-use Rattle.sheets.specs.Links as Links
-use Rattle.sheets.specs.Links.{Loads}
-use Rattle.sheets.specs.Reading as Sheet
 use Rattle.sheets.specs.Tree.{SheetTree}
 use Rattle.sheets.specs.declared.Line.{Line}
+use Rattle.sheets.proofs.OneAnswer.{one-answer}
 use Rattle.judge.specs.Judging.{Numbers, Refused, JudgesLines, too-few, judged, JudgesSheet, by-sheet, by-lines, Judges, by-table, admitted, SameNumbers}
-use Rattle.judge.specs.Verdicts.{Verdicts}
 use Rattle.judge.specs.declared.Judged.{Judged}
+use Rattle.judge.proofs.Answers.{grown}
 use Rattle.judge.proofs.OneVerdict.{one-verdict}
 
 clash : {A : Type 0} → _≡_ {A = ℕ} 0 1 → A
@@ -54,19 +51,19 @@ module _ {old x y : List ℕ} {a b : Judged} where
           memory = d ∙ ap (λ (u : List ℕ). u ++ drop (length u) old) z ∙ sym e;
         }
 
-  module _ (sheet : List ℕ) (one : Links.OneAnswer sheet) (grown : (lines : List Line) → Loads sheet (Sheet.lines-read lines) → (t : Tree) × SheetTree lines t) where
+  module _ (sheet : List ℕ) where
     sheet-same : {rows : Table} → JudgesSheet rows sheet old x a → JudgesSheet rows sheet old y b → Same x y a b
     sheet-same (by-sheet {n = n} {p = p} k r) (by-sheet {n = m} {p = q} l s) =
-        let e = one .unique k l in
+        let e = one-answer sheet .unique k l in
         let f : n ≡ m = cc in
         let g : p ≡ q = cc in
         refusals f g r s
-    sheet-same (by-sheet k r) (by-lines l j) = clash (let e = one .unique k l in cc)
-    sheet-same (by-lines k i) (by-sheet l s) = clash (let e = one .unique k l in cc)
+    sheet-same (by-sheet k r) (by-lines l j) = clash (let e = one-answer sheet .unique k l in cc)
+    sheet-same (by-lines k i) (by-sheet l s) = clash (let e = one-answer sheet .unique k l in cc)
     sheet-same {rows} (by-lines {lines = u} k i) (by-lines {lines = v} l j) =
-        let e = one .unique k l in
+        let e = one-answer sheet .unique k l in
         let f : u ≡ v = cc in
-        lines-same (grown u k .1) i (subst (λ (z : List Line). JudgesLines rows z old y b) (sym f) j)
+        lines-same (grown sheet u k .1) i (subst (λ (z : List Line). JudgesLines rows z old y b) (sym f) j)
 
     pub judges-same : (text : List ℕ) → Judges text sheet old x a → Judges text sheet old y b → Same x y a b
     judges-same text (by-table {n = n} {p = p} k r) (by-table {n = m} {p = q} l s) =

@@ -1,23 +1,22 @@
 -- Every table, sheet and lent memory has an outcome.
-use Prim.Native.Nat.{ℕ, _<_, _≤_}
+use Prim.Native.Nat.{ℕ, _<_}
 use native.Mathlib.Decide.{decLt}
 use native.Mathlib.Omega.{arith}
 use mathlib.Core.List.{List, _++_}
-use mathlib.Core.Path.{_≡_, refl}
+use mathlib.Core.Path.{refl}
 use lib.ListN.{length, drop}
 use Rattle.meaning.specs.Table.{Table}
-use Rattle.meaning.specs.Tree.{Tree}
 use Rattle.reader.specs.Reading.{Reading, rows-read, refused}
-use Rattle.intake.specs.Loading.{Admits, Admissible, table}
+use Rattle.intake.specs.Loading.{Admits, Admissible}
 use Rattle.intake.proofs.Theorems.{one-admission}
-use Rattle.sheets.specs.Links as Links
 use Rattle.sheets.specs.Links.{Loads}
 use Rattle.sheets.specs.Reading as Sheet
-use Rattle.sheets.specs.Tree.{SheetTree}
 use Rattle.sheets.specs.declared.Line.{Line}
+use Rattle.sheets.proofs.OneAnswer.{one-answer}
 use Rattle.judge.specs.Judging.{Numbers, Refused, JudgesLines, too-few, judged, JudgesSheet, by-sheet, by-lines, Judges, by-table, admitted}
 use Rattle.judge.specs.Verdicts.{Verdicts}
 use Rattle.judge.specs.declared.Judged.{Judged}
+use Rattle.judge.proofs.Answers.{grown}
 use Rattle.judge.proofs.OneVerdict.{some-verdicts}
 
 numbered : ℕ → ℕ → ℕ → Judged
@@ -42,14 +41,14 @@ module _ (old : List ℕ) where
       at (yes h) = (old, numbered 0 8 0, too-few v h (refuses old 8 0))
       at (no h) = (bytes ++ drop (length bytes) old, numbered (length bytes) 0 0, judged v (omega (arith, h)) (has-numbers (length bytes) 0 0) refl)
 
-  module _ (sheet : List ℕ) (one : Links.OneAnswer sheet) (grown : (lines : List Line) → Loads sheet (Sheet.lines-read lines) → (t : Tree) × SheetTree lines t) where
+  module _ (sheet : List ℕ) where
     some-sheet : {rows : Table} → Admissible rows → Some (JudgesSheet rows sheet old)
-    some-sheet {rows} a = at (one .answer) (one .loads)
+    some-sheet {rows} a = at (one-answer sheet .answer) (one-answer sheet .loads)
       where
         at : (x : Sheet.Reading) → Loads sheet x → Some (JudgesSheet rows sheet old)
         at (Sheet.refused n p) l = (old, numbered 0 n p, by-sheet l (refuses old n p))
         at (Sheet.lines-read lines) l =
-            let t = grown lines l in
+            let t = grown sheet lines l in
             let v = some-verdicts rows lines (t .0) (t .1) (a .some-row) (a .in-range) (a .loop-free) in
             let o = some-lines (v .1) in
             (o .0, o .1, by-lines l (o .2))

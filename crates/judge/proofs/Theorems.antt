@@ -1,16 +1,14 @@
 -- The theorem of specs/Judging: the outcome is one, and there is one.
-use mathlib.Core.List.{List}
 use Prim.Native.Nat.{ℕ}
-use Rattle.sheets.proofs.OneAnswer.{one-answer}
+use mathlib.Core.List.{List}
 use Rattle.judge.specs.Judging.{OneOutcome}
 use Rattle.judge.proofs.One.{judges-same}
-use Rattle.judge.proofs.Sheets.{grown}
 use Rattle.judge.proofs.Some.{some-outcome}
 
 pub one-outcome : (text sheet old : List ℕ) → OneOutcome text sheet old
 one-outcome text sheet old =
     record {
-      some-answer = some-outcome old sheet (one-answer sheet) (grown sheet) text;
-      same-answer = λ x y a b j k. judges-same sheet (one-answer sheet) (grown sheet) text j k .numbers;
-      same-memory = λ x y a b j k. judges-same sheet (one-answer sheet) (grown sheet) text j k .memory;
+      some-answer = some-outcome old sheet text;
+      same-answer = λ x y a b j k. judges-same sheet text j k .numbers;
+      same-memory = λ x y a b j k. judges-same sheet text j k .memory;
     }

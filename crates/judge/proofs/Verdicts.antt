@@ -9,6 +9,7 @@ use lib.Dec.{ltb}
 use lib.ListN.{length, getD, length-append}
 use Rattle.table.specs.Written.{tab, line-feed, decimal}
 use Rattle.sheets.specs.Written.{numeral}
+use Rattle.sheets.proofs.Numerals.{two-digits}
 use Rattle.truths.specs.Cells.{found}
 use Rattle.judge.specs.Output.{verdict-line, verdict-lines}
 use Rattle.judge.specs.Writing.{digitsOf}
@@ -20,10 +21,6 @@ decimal-one n h = rw (lt-ltb n 10 h)
 pub decimal-two : (n : ℕ) → 10 ≤ n → decimal n ≡ (48 + n / 10) ∷ ((48 + n % 10) ∷ [])
 unfolding decimal
 decimal-two n h = rw (le-ltb n 10 h)
-
-pub numeral-decimal : (n : ℕ) → n < 100 → numeral n ≡ decimal n
-unfolding numeral
-numeral-decimal n h = rw (lt-ltb n 100 h)
 
 pub numeral-three : (n : ℕ) → 100 ≤ n → numeral n ≡ (48 + n / 100) ∷ ((48 + n / 10 % 10) ∷ ((48 + n % 10) ∷ []))
 unfolding numeral
@@ -40,11 +37,11 @@ numeral-length n = at (ltb n 10) refl (ltb n 100) refl
     at : (b : Bool) → ltb n 10 ≡ b → (d : Bool) → ltb n 100 ≡ d → length (numeral n) + longer n ≡ 1 + longer (suc n)
     at true e d g =
         let h : n < 10 = ltb-true n 10 e in
-        omega (arith, ap length (numeral-decimal n (omega arith)), ap length (decimal-one n h))
+        omega (arith, ap length (two-digits n (omega arith)), ap length (decimal-one n h))
     at false e true g =
         let h : 10 ≤ n = ltb-false n 10 e in
         let l : n < 100 = ltb-true n 100 g in
-        omega (arith, ap length (numeral-decimal n l), ap length (decimal-two n h))
+        omega (arith, ap length (two-digits n l), ap length (decimal-two n h))
     at false e false g = let h : 100 ≤ n = ltb-false n 100 g in omega (arith, ap length (numeral-three n h))
 
 pub line-length : (i digit : ℕ) → length (verdict-line i digit) ≡ length (numeral i) + 3
@@ -60,9 +57,6 @@ length-from i (b ∷ bs) =
 pub output-length : (bs : List ℕ) → length (verdict-lines 0 bs) ≡ 4 * length bs + (length bs - 10) + (length bs - 100)
 unfolding longer
 output-length bs = omega (arith, length-from 0 bs)
-
-pub lines-length : (i : ℕ) (bs cs : List ℕ) → length bs ≡ length cs → length (verdict-lines i bs) ≡ length (verdict-lines i cs)
-lines-length i bs cs e = omega (arith, rw e at (length-from i bs), length-from i cs)
 
 pub length-digits : (truth : List ℕ) (i k : ℕ) → length (digitsOf truth i k) ≡ k
 unfolding digitsOf

@@ -11,7 +11,3 @@ verdict-line i digit = numeral i ++ (tab ∷ ((48 + digit) ∷ (line-feed ∷ []
 unfoldable pub verdict-lines : ℕ → List ℕ → List ℕ
 verdict-lines i [] = []
 verdict-lines i (b ∷ bs) = verdict-line i b ++ verdict-lines (suc i) bs
-
--- The most that is written: 10 lines of 4 bytes, 90 of 5 and 155 of 6.
-abbrev pub output-limit : ℕ
-output-limit = 1420

@@ -5,7 +5,11 @@ use mathlib.Core.List.{List, [], _∷_, _++_}
 use mathlib.Core.Path.{_≡_}
 use lib.ListN.{length, drop, take}
 use Rattle.truths.specs.Cells.{found}
-use Rattle.judge.specs.Output.{verdict-lines, output-limit}
+use Rattle.judge.specs.Output.{verdict-lines}
+
+-- The most that is written.
+abbrev pub output-limit : ℕ
+output-limit = 1420
 
 -- The digits of so many lines from line i on: row 0's truth at each.
 unfoldable pub digitsOf : List ℕ → ℕ → ℕ → List ℕ

@@ -2,7 +2,6 @@
 mod output;
 
 use table::Table;
-ghost use mathlib.Core.Path.{_≡_};
 ghost use lib.ListN.{length};
 ghost use Rattle.table.specs.Rows.{tableIn, tableOf};
 ghost use Rattle.sheets.specs.Lines.{linesIn};

@@ -3,14 +3,14 @@ use Prim.Native.Nat.{ℕ, _+_, _*_, _/_, _%_, _<_}
 use native.Mathlib.Omega.{arith}
 use native.Mathlib.Numerals.{add-one}
 use mathlib.Core.List.{List, [], _∷_, _++_, map-append}
-use mathlib.Core.Path.{_≡_, refl, ap, sym, subst, _∙_}
+use mathlib.Core.Path.{_≡_, ap, sym, subst, _∙_}
 use lib.ListN.{length, take, set}
 use lib.Seq.{take-suc-set}
 use borrow.Author.Tests.{ne-eqb}
 use Rattle.sheets.specs.Lines.{Linkable, linkOf, lineOf, linesIn}
 use Rattle.sheets.specs.declared.Line.{Line}
 use Rattle.sheets.specs.declared.Link.{Link}
-use Rattle.sheets.specs.declared.Link.the-variants.{Dash, To}
+use Rattle.sheets.specs.declared.Link.the-variants.{To}
 
 pub link-number : (k : ℕ) → k < 1000 → linkOf k ≡ To k
 link-number k h = rw (ne-eqb k 1023 (λ e. omega arith))

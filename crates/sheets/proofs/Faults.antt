@@ -20,7 +20,7 @@ use Rattle.sheets.specs.declared.Line.{Line}
 use Rattle.sheets.specs.declared.Link.{Link}
 use Rattle.sheets.specs.declared.Link.the-variants.{Dash, To}
 use Rattle.sheets.proofs.Counting.{lines-long, cell-line}
-use Rattle.sheets.proofs.Named.{Twice, in-one, in-two, names-inside, some-line, two-fields, named, named-by-both, count-one, count-two, count-both}
+use Rattle.sheets.proofs.Named.{dash-not-to, Twice, in-one, in-two, names-inside, some-line, two-fields, named, named-by-both, count-one, count-two, count-both}
 
 abbrev wrongAt : List Line → ℕ → Side → Bool
 wrongAt lines i s = wrong i (length lines) (link s (lineAt lines i))
@@ -51,7 +51,7 @@ module _ (lines : List Line) (i : ℕ) where
 
   wrong-told : (l : Link) → Decides (wrong i (length lines) l) (Wrong l)
   unfolding Wrong
-  wrong-told Dash = never (λ w. let e = w .1 in let z : _≡_ {A = ℕ} 0 1 = cc in omega arith)
+  wrong-told Dash = never (λ w. dash-not-to (w .1))
   wrong-told (To j) =
       same-as (λ h. (j, refl, h), λ w. let e : w .0 ≡ j = (let f = w .1 in cc) in rw e at (w .2))
       (either (leb j i) (leb (length lines) j) (at-most j i) (at-most (length lines) j))

@@ -25,10 +25,14 @@ later : {l : Line} {lines : List Line} {j : ℕ} → Twice lines j → Twice (l 
 later (in-one k h) = in-one (suc k) h
 later (in-two k m d g h) = in-two (suc k) (suc m) (λ e. d (omega arith)) g h
 
+-- no field is both
+pub dash-not-to : {j : ℕ} → Dash ≡ To j → ⊥
+dash-not-to e = absurd (let z : _≡_ {A = ℕ} 0 1 = cc in omega arith)
+
 -- a line that names another is there
 pub names-inside : (lines : List Line) (i : ℕ) {s : Side} {j : ℕ} → Names lines i s j → i < length lines
-names-inside [] i {s = first} n = absurd (let e = n .names in let z : _≡_ {A = ℕ} 0 1 = cc in omega arith)
-names-inside [] i {s = next} n = absurd (let e = n .names in let z : _≡_ {A = ℕ} 0 1 = cc in omega arith)
+names-inside [] i {s = first} n = absurd (dash-not-to (n .names))
+names-inside [] i {s = next} n = absurd (dash-not-to (n .names))
 names-inside (l ∷ lines) zero n = omega arith
 names-inside (l ∷ lines) (suc i) {s} {j} n =
     let m : Names lines i s j = record { names = n .names } in

@@ -21,7 +21,7 @@ abbrev pub NoDigit : List ℕ → Type 0
 NoDigit s = (m : ℕ) → second m s ≡ taken m s
 
 -- three digits are two and a third
-two-digits : (k : ℕ) → k < 100 → numeral k ≡ decimal k
+pub two-digits : (k : ℕ) → k < 100 → numeral k ≡ decimal k
 unfolding numeral
 two-digits k h = rw (lt-ltb k 100 h)
 

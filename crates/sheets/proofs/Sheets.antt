@@ -1,10 +1,9 @@
 -- Sheets as a kind of line, and what reading a sheet's text gives as one of the ends of a scan.
-use mathlib.Core.Path.{_≡_, refl, ap, sym, _∙_}
+use mathlib.Core.Path.{_≡_, refl, sym, subst}
 use mathlib.Core.List.{List, [], _∷_, _++_}
 use Prim.Native.Nat.{ℕ, _≤_}
 use native.Mathlib.Omega.{arith}
 use lib.ListN.{length}
-use borrow.Author.Tests.{ne-eqb}
 use Rattle.reader.specs.Parts.{nothing}
 use Rattle.reader.proofs.Scan.{Kind, reading}
 use Rattle.reader.proofs.Settled as settled
@@ -16,6 +15,7 @@ use Rattle.sheets.specs.Lines.{line-limit, Right, linesOf}
 use Rattle.sheets.specs.Written.{written, written-lines}
 use Rattle.sheets.specs.Parts.{lineIn}
 use Rattle.sheets.specs.Reading.{Reading, lines-read, refused, AllRight, none, more, Reads, empty, malformed, too-many, read, Answers}
+use Rattle.sheets.proofs.Loading.{gives-refusal}
 use Rattle.sheets.proofs.Written.{line-read, line-taken}
 
 pub no-line-in : lineIn [] ≡ nothing
@@ -84,20 +84,7 @@ only r = settled.only sheets (ends-of r)
 -- the answers of `read_text`
 module _ (text : List ℕ) where
   pub refuses : (place : ℕ) (r : Read) → (r .refusal ≡ 9) × (r .place ≡ place) × (r .sheet .lines ≡ 0) × (linesOf (r .sheet) ≡ []) → reading sheets text ≡ refused 9 place → Answers text r
-  refuses place r f e =
-      let z : r .refusal ≡ 0 → ⊥ = λ q. omega arith in
-      record {
-        answer = reading sheets text;
-        reads = reads text;
-        says =
-            record {
-              gives = rw (ne-eqb (r .refusal) 0 z) (cc);
-              counted = f .2 ∙ sym (ap length (f .3));
-              no-lines = λ q. f .2;
-              no-place = λ q. absurd (z q);
-              few = omega arith;
-            };
-      }
+  refuses place r f e = record { answer = refused 9 place; reads = subst (λ (a : Reading). Reads text a) e (reads text); says = gives-refusal (λ q. omega arith) f }
 
   pub accepts : (s : Sheet) → s .lines ≡ length (linesOf s) → s .lines ≤ line-limit → reading sheets text ≡ lines-read (linesOf s) → Answers text (record { refusal = 0; place = 0; sheet = s })
   accepts s c h e =

@@ -1,3 +1,4 @@
+-- The tree of a sheet without a fault, and its neighbours.
 pub mod Naming
 pub mod Unfolded
 pub mod Placed

@@ -5,7 +5,7 @@ use mathlib.Core.Path.{_≡_}
 use lib.ListN.{length}
 use Rattle.meaning.specs.Table.{Side, Dir, down, up}
 use Rattle.meaning.specs.Tree.{Tree, nothing, node, Node, Place, below, nameOf}
-use Rattle.sheets.specs.Lines.{link, lineAt}
+use Rattle.sheets.specs.Lines.{lineAt}
 use Rattle.sheets.specs.Links.{Names}
 use Rattle.sheets.specs.declared.Line.{Line}
 use Rattle.sheets.specs.declared.Link.{Link}

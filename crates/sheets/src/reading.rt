@@ -20,7 +20,7 @@ pub fn read_text(text: &[u8]) -> Read
     while at < text.len() {
         let n = s.lines;
         if n == Sheet::LINES {
-            return refused(9, n);
+            return refused(9, Sheet::LINES);
         }
         let Found::Is(line, next) = lines::read_line(text, at) else {
             return refused(9, n);

@@ -2,12 +2,12 @@
 use Prim.Native.Nat.{ℕ, _*_, _^_, _<_, _≤_}
 use native.Mathlib.Omega.{arith}
 use mathlib.Core.Bool.{true}
-use mathlib.Core.List.{List, map}
+use mathlib.Core.List.{List}
 use mathlib.Core.Path.{_≡_, refl, _∙_, ap}
 use lib.ListN.{take, length-map}
 use Rattle.meaning.specs.Table.{looks}
-use Rattle.meaning.specs.Outcome.{Accepted, Slices}
-use Rattle.table.specs.Rows.{meant, rowOf, rowsOf, tableOf}
+use Rattle.meaning.specs.Outcome.{Slices}
+use Rattle.table.specs.Rows.{rowOf, rowsOf, tableOf}
 use Rattle.table.specs.declared.Row.{Row}
 use Rattle.table.specs.declared.Table.{Table}
 use Rattle.intake.specs.Loading.{Answered, table}

@@ -3,12 +3,13 @@ use Prim.Native.Nat.{ℕ, _<_, _≤_}
 use native.Mathlib.Omega.{arith}
 use mathlib.Core.List.{List}
 use mathlib.Core.Path.{_≡_, subst}
-use lib.ListN.{length, length-map}
+use lib.ListN.{length}
 use Rattle.meaning.specs.Table.{rowAt}
 use Rattle.table.specs.Rows.{tableIn}
 use Rattle.table.proofs.Decides.{same-as}
-use Rattle.sheets.specs.Lines.{line-limit, lineOf, linesIn}
+use Rattle.sheets.specs.Lines.{line-limit, linesIn}
 use Rattle.sheets.specs.Links.{FaultFree}
+use Rattle.sheets.proofs.Counting.{lines-long}
 use Rattle.truths.specs.Decided.{Decided}
 use Rattle.truths.specs.Search.{Settled}
 use Rattle.truths.specs.Spots.{Spots, Laid}
@@ -16,7 +17,7 @@ use Rattle.truths.proofs.Bridge.{laid, bridge}
 
 module _ (cells lines spots : List ℕ) (few : length lines ≤ line-limit) (free : FaultFree (linesIn lines)) (o : Spots (tableIn cells) (linesIn lines) spots) where
   count : length (linesIn lines) ≡ length lines
-  count = length-map lines lineOf
+  count = lines-long lines
 
   few-lines : length (linesIn lines) ≤ line-limit
   few-lines = omega (arith, count)

@@ -16,9 +16,10 @@ use Rattle.sheets.specs.declared.Line.{Line}
 use Rattle.sheets.specs.declared.Link.{Link}
 use Rattle.sheets.specs.declared.Link.the-variants.{Dash, To}
 use Rattle.truths.specs.Spots.{nameAt, nearAt, NearIs, near, none, Spots}
+use Rattle.sheets.proofs.Named.{dash-not-to}
 use Rattle.sheets.proofs.Tree.Naming.{namer-there}
 use Rattle.truths.specs.Placing.{Within, linked, placed}
-use Rattle.truths.proofs.Inside.{near-there}
+use Rattle.truths.proofs.Inside.{near-inside}
 use Rattle.truths.proofs.Stores.{numbers, spot, Stored, here, elsewhere, store, names-stay}
 
 -- the fields are numbered from 1 in the order of storing, two for each line
@@ -94,8 +95,8 @@ by-field {s = s} {u = u} (above-it {s = r} {j = j} n) e =
     let b = same-turn r s j u e in
     rw (b .0, b .1) (going-up (rw (b .0, b .1) at n))
 
-names-one : {lines : List Line} {u : ℕ} {s : Side} {l : Link} {q : ℕ} → link s (lineAt lines u) ≡ l → Names lines u s q → l ≡ To q
-names-one e n = sym e ∙ n .names
+named-as : {lines : List Line} {u : ℕ} {s : Side} {l : Link} {q : ℕ} → link s (lineAt lines u) ≡ l → Names lines u s q → l ≡ To q
+named-as e n = sym e ∙ n .names
 
 -- what no step by the new field changes
 so-still : {lines : List Line} {f : ℕ} {d : Dir} {p v : ℕ} → ((q : ℕ) → Near lines d p q → by d p q ≡ f + 1 → ⊥) → NearSoFar lines f d p v → NearSoFar lines (f + 1) d p v
@@ -111,8 +112,8 @@ module _ {lines : List Line} (s : Side) (u f : ℕ) (now-turn : f + 1 ≡ turn s
   dashed e k = record { long = k .long; names = k .names; nears = λ d p h. so-still (λ q n b. not (by-field n (b ∙ now-turn))) (k .nears d p h) }
     where
       not : {d : Dir} {p q : ℕ} → ByField lines s u d p q → ⊥
-      not (going-down n) = let t = names-one e n in let z : _≡_ {A = ℕ} 0 1 = cc in omega arith
-      not (going-up n) = let t = names-one e n in let z : _≡_ {A = ℕ} 0 1 = cc in omega arith
+      not (going-down n) = dash-not-to (named-as e n)
+      not (going-up n) = dash-not-to (named-as e n)
 
   -- the field names line j
   module _ (j : ℕ) (e : link s (lineAt lines u) ≡ To j) where
@@ -122,7 +123,7 @@ module _ {lines : List Line} (s : Side) (u f : ℕ) (now-turn : f + 1 ≡ turn s
     elsewhere-else : {d : Dir} {p q : ℕ} → (spot d p ≡ spot (down s) u → ⊥) → (spot d p ≡ spot (up s) j → ⊥) → ByField lines s u d p q → ⊥
     elsewhere-else a b (going-down n) = a refl
     elsewhere-else a b (going-up {p} n) =
-        let t = names-one e n in
+        let t = named-as e n in
         let m : p ≡ j = cc in
         b (ap (spot (up s)) m)
 
@@ -167,5 +168,5 @@ module _ {rows : Table} {lines : List Line} where
   }
     where
       at : {d : Dir} {p v : ℕ} → NearSoFar lines (u * 2) d p v → NearIs lines d p v
-      at (so-near n b) = near n (near-there free n)
+      at (so-near n b) = near n (near-inside free n)
       at (so-none g) = none (λ q n. g q n (omega (arith, by-there n)))

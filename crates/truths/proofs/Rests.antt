@@ -15,8 +15,8 @@ module _ {spots : List ℕ} {p : ℕ} where
   pub low-line : OnSheet spots p → p < line-limit
   low-line s = omega (arith, s .laid .few, s .inside)
 
-  pub near-there : (d : Dir) → OnSheet spots p → nearAt spots d p < line-limit → OnSheet spots (nearAt spots d p)
-  near-there d s h = record { lines = s .lines; laid = s .laid; inside = s .laid .there d p (s .inside) h }
+  pub near-on-sheet : (d : Dir) → OnSheet spots p → nearAt spots d p < line-limit → OnSheet spots (nearAt spots d p)
+  near-on-sheet d s h = record { lines = s .lines; laid = s .laid; inside = s .laid .there d p (s .inside) h }
 
 module _ {spots : List ℕ} {p j : ℕ} where
   -- a row that names row j looks nowhere
@@ -29,7 +29,7 @@ module _ {spots : List ℕ} {p j : ℕ} where
 
   -- one that looks at row j does so from one line, and one that looks at another rests nowhere on it
   pub rests-back : {r : Row} {d : Dir} → r ≡ go-row d j → OnSheet spots p → nearAt spots (converse d) p ≤ line-limit → RestsAt spots r p j (nearAt spots (converse d) p)
-  rests-back {r} {d} look s m = record { most = m; there = near-there (converse d) s; only = λ k o h. at k o h }
+  rests-back {r} {d} look s m = record { most = m; there = near-on-sheet (converse d) s; only = λ k o h. at k o h }
     where
       at : (k : ℕ) → OnSheet spots k → Rests spots r k p j → k ≡ nearAt spots (converse d) p
       at k o (by-name e f) = false≢true (sym (ap (refersTo j) look) ∙ f)

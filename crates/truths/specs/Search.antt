@@ -102,7 +102,7 @@ Before n q i = q < n
 abbrev pub Resting : Table → List ℕ → ℕ → ℕ → ℕ → Type 0
 Resting rows spots c q i = Rests spots (rowAt rows i) q (cellLine c) (cellRow c)
 
--- A cell of a line of the sheet, or of none below 255.
+-- A cell that may be visited: its line is one of the sheet's, or is 255 or above, and then nothing is found.
 abbrev pub Visitable : List ℕ → ℕ → Type 0
 Visitable spots c = cellLine c < line-limit → OnSheet spots (cellLine c)
 

@@ -176,6 +176,7 @@ fn near(spots: &[u8; SPOTS], d: u8, p: usize) -> usize
     wide(spots[d as usize * Sheet::LINES + p])
 }
 
+// Its contract says what a byte's type does: at most 255.
 fn wide(x: u8) -> usize
     ensures { λ r. ⌜ (r ≡ x) × (r ≤ line-limit) ⌝ }
 {

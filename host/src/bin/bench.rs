@@ -200,7 +200,7 @@ const JUDGINGS: [Judging; 4] = [
 ];
 
 /// The lines of the chains; the last is the full sheet.
-const CHAINS: [usize; 4] = [16, 64, 128, Sheet::LINES];
+const CHAINS: [usize; 5] = [1, 16, 64, 128, Sheet::LINES];
 
 type Judge = fn(&[u8], &[u8], &mut [u8]) -> JudgedNumbers;
 

@@ -44,10 +44,10 @@ fn some_lines(random: &mut Random) -> usize {
 pub type Fields = Vec<[String; 3]>;
 
 pub fn fields_of(sheet: &Sheet) -> Fields {
-    let lines = sheet.lines().iter().map(|line| line.to_string());
-    let fields = lines.map(|line| line.split('\t').map(str::to_string).collect::<Vec<_>>());
-    fields
-        .map(|fields| fields.try_into().expect("three fields"))
+    let link = |link: Option<usize>| link.map_or("-".to_string(), |to| to.to_string());
+    let lines = sheet.lines().iter();
+    lines
+        .map(|line| [line.name.to_string(), link(line.first), link(line.next)])
         .collect()
 }
 

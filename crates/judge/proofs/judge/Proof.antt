@@ -1,6 +1,7 @@
+-- The table's answer decides whether the sheet is looked at.
 use borrow.Author.Needs.{needs}
 use native.Mathlib.Omega.{arith}
-use Rattle.judge.proofs.Sheets.{table-refusal, ready-table, refuses-table, judges-both}
+use Rattle.judge.proofs.Answers.{table-refusal, ready-table, refuses-table, judges-both}
 use Rattle.judge.proofs.judge.Statement.{statement}
 use Rattle.judge.proofs.judge.Tie as tie
 

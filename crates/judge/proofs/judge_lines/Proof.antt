@@ -1,5 +1,5 @@
+-- Memory that is too short is refused; else what is found is what is written.
 use borrow.Author.Needs.{needs}
-use native.Mathlib.Omega.{arith}
 use mathlib.Core.Path.{refl}
 use Rattle.judge.proofs.Judging.{table-few, has-room, no-room, writes}
 use Rattle.judge.proofs.judge_lines.Statement.{statement}

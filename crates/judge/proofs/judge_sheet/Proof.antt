@@ -1,8 +1,9 @@
+-- The sheet's answer decides whether its lines are judged; both arrays hold what they are said to hold.
 use borrow.Author.Needs.{needs}
 use native.Mathlib.Omega.{arith}
 use mathlib.Core.Path.{_≡_}
 use lib.ListN.{length, length-take}
-use Rattle.judge.proofs.Sheets.{rows-few, small-refusal, refuses-sheet, judges-sheet, ready-lines}
+use Rattle.judge.proofs.Answers.{rows-few, small-refusal, refuses-sheet, judges-sheet, ready-lines}
 use Rattle.judge.proofs.judge_sheet.Statement.{statement}
 use Rattle.judge.proofs.judge_sheet.Tie as tie
 

@@ -1,6 +1,6 @@
 -- Which lines name which. A field names one line; on a sheet without a fault it names a greater one that is there, and every line but line 0 is
 -- named by one field.
-use Prim.Native.Nat.{ℕ, _<_, _≤_}
+use Prim.Native.Nat.{ℕ, _<_}
 use native.Mathlib.Decide.{decLt, ℕ-discrete}
 use native.Mathlib.Omega.{arith}
 use mathlib.Core.List.{List}
@@ -14,10 +14,7 @@ use Rattle.sheets.specs.Links.{Names, not-greater, not-there, never-name
 use Rattle.sheets.specs.declared.Line.{Line}
 use Rattle.sheets.specs.declared.Link.{Link}
 use Rattle.sheets.specs.declared.Link.the-variants.{Dash, To}
-use Rattle.sheets.proofs.Named.{names-inside}
-
-dash-not-to : {j : ℕ} → Dash ≡ To j → ⊥
-dash-not-to e = absurd (let z : _≡_ {A = ℕ} 0 1 = cc in omega arith)
+use Rattle.sheets.proofs.Named.{dash-not-to, names-inside}
 
 one-line : {j k : ℕ} → To j ≡ To k → j ≡ k
 one-line e = cc

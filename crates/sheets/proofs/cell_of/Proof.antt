@@ -1,3 +1,4 @@
+-- The three parts of a cell do not meet.
 use borrow.Author.Needs.{needs}
 use mathlib.Core.Path.{refl}
 use Rattle.meaning.specs.Table.{first, next}

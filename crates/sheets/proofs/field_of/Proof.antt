@@ -1,3 +1,4 @@
+-- A line number has at most three digits, and so is never the number of the dash.
 use borrow.Author.Needs.{needs}
 use Rattle.sheets.proofs.Cells.{short-link}
 use Rattle.sheets.proofs.field_of.Statement.{statement}

@@ -1,3 +1,4 @@
+-- A cell taken apart is its line by definition.
 use borrow.Author.Needs.{needs}
 use Rattle.sheets.specs.Lines.{lineOf}
 use Rattle.sheets.proofs.line_of.Statement.{statement}

@@ -1,4 +1,4 @@
-use borrow.Author.Needs.{needs}
+-- The test is the definition's.
 use borrow.Author.Tests.{eq-eqb, ne-eqb}
 use Rattle.sheets.proofs.link_of.Statement.{statement}
 use Rattle.sheets.proofs.link_of.Tie as tie

@@ -1,3 +1,4 @@
+-- What is laid out is fit for the search, and what the search settles is decided on the tree.
 use borrow.Author.Needs.{needs}
 use Rattle.truths.proofs.Deciding.{fit, decided}
 use Rattle.truths.proofs.truths_of.Statement.{statement}

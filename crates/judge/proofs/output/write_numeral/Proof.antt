@@ -3,7 +3,8 @@ use mathlib.Core.Path.{ap}
 use native.Mathlib.Omega.{arith}
 use lib.ListN.{length}
 use Rattle.judge.proofs.Puts.{put-both}
-use Rattle.judge.proofs.Verdicts.{numeral-decimal, numeral-three}
+use Rattle.sheets.proofs.Numerals.{two-digits}
+use Rattle.judge.proofs.Verdicts.{numeral-three}
 use borrow.Author.Needs.{needs}
 use Rattle.judge.proofs.output.write_numeral.Statement.{statement}
 use Rattle.judge.proofs.output.write_numeral.Tie as tie
@@ -11,7 +12,7 @@ use Rattle.judge.proofs.output.write_numeral.Tie as tie
 write-decimal-requires : tie.Need-write-decimal-requires
 write-decimal-requires c κs =
     let s = c .before in
-    (search needs, omega (arith, ap length (numeral-decimal (s .before .before .args .i) (s .if1 .taken))))
+    (search needs, omega (arith, ap length (two-digits (s .before .before .args .i) (s .if1 .taken))))
 
 same-length : tie.Need-same-length
 same-length c = search needs
@@ -19,7 +20,7 @@ same-length c = search needs
 returns : tie.Need-returns
 returns c =
     let s = c .before .before .before .before in
-    rw (numeral-decimal (s .before .before .args .i) (s .if1 .taken)) (c .before .before .write-decimal .ensures)
+    rw (two-digits (s .before .before .args .i) (s .if1 .taken)) (c .before .before .write-decimal .ensures)
 
 put-digit-requires : tie.Need-put-digit-requires
 put-digit-requires c κs =

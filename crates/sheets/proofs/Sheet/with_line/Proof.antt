@@ -1,3 +1,4 @@
+-- A store at the first free cell is a line more.
 use borrow.Author.Needs.{needs}
 use mathlib.Core.Path.{refl}
 use native.Mathlib.Omega.{arith}

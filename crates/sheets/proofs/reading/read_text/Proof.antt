@@ -1,10 +1,12 @@
 -- The invariant is a `Turn`: the sheet holds the lines before `at`, and the rest of the text decides.
 use borrow.Author.Needs.{needs}
 use native.Mathlib.Omega.{arith}
+use mathlib.Core.Path.{_∙_, ap}
 use Prim.Native.Nat.{_<_, _-_}
 use lib.ListN.{drop}
 use Rattle.reader.proofs.Turns.{Turn, empty-text, first-turn, at-end, at-full, at-wrong, next-turn}
 use Rattle.sheets.specs.Lines.{line-limit, linesOf}
+use Rattle.sheets.specs.Reading.{refused}
 use Rattle.sheets.proofs.Given.{line-is, line-wrong}
 use Rattle.sheets.proofs.Written.{line-taken}
 use Rattle.sheets.proofs.Sheets.{sheets, refuses, accepts}
@@ -37,7 +39,8 @@ returns-2 c =
     let i = c .before .before in
     let l = i .before .loop in
     let x = i .before .before .before .before .before .args .text .now in
-    refuses x (l .s .lines) (c .refused2 .result) (c .refused2 .ensures) (at-full sheets x (l .s .lines) (linesOf (l .s)) (l .at) (l .inv) (i .loop-test .taken) (c .before .if2 .taken))
+    refuses x line-limit (c .refused2 .result) (c .refused2 .ensures)
+    (at-full sheets x (l .s .lines) (linesOf (l .s)) (l .at) (l .inv) (i .loop-test .taken) (c .before .if2 .taken) ∙ ap (refused 9) (c .before .if2 .taken))
 
 read-line-requires : tie.Need-read-line-requires Inv-loop μ-loop
 read-line-requires c κs = search needs

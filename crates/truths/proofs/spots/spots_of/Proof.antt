@@ -6,7 +6,8 @@ use lib.ListN.{length, length-map}
 use Rattle.meaning.specs.Table.{first, next}
 use Rattle.table.specs.Rows.{tableIn}
 use Rattle.sheets.specs.Lines.{line-limit, linesIn}
-use Rattle.truths.proofs.Inside.{cell-line, line-within}
+use Rattle.sheets.proofs.Counting.{cell-line}
+use Rattle.truths.proofs.Inside.{line-within}
 use Rattle.truths.proofs.Placing.{Placing, placing-none, line-more, placed-all}
 use borrow.Author.Needs.{needs}
 use Rattle.truths.proofs.spots.spots_of.Statement.{statement}

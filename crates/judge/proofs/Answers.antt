@@ -1,20 +1,20 @@
--- From what reading a sheet gives to what is promised of it.
+-- From what `admit` and `sheets::load` answer to what is promised of a call.
 use Prim.Native.Nat.{ℕ, _<_, _≤_}
 use native.Mathlib.Omega.{arith}
 use mathlib.Core.Bool.{false}
 use mathlib.Core.List.{List}
 use mathlib.Core.Logic.{_⊎_, inl, inr}
-use mathlib.Core.Path.{_≡_, refl, ap, sym, _∙_}
+use mathlib.Core.Path.{_≡_, refl}
 use lib.ListN.{length, take, length-map}
 use Rattle.meaning.specs.Table as M
 use Rattle.meaning.specs.Tree.{Tree}
 use Rattle.table.specs.Rows.{rowOf, rowsOf, tableOf}
 use Rattle.table.specs.declared.Table.{Table}
-use Rattle.intake.specs.Loading.{Admissible, Answered}
+use Rattle.intake.specs.Loading.{Answered}
 use Rattle.intake.specs.declared.Loaded.{Loaded}
 use Rattle.intake.proofs.Given.{refusal, given}
 use Rattle.intake.proofs.Theorems.{one-admission}
-use Rattle.sheets.specs.Lines.{line-limit, lineOf, linesOf}
+use Rattle.sheets.specs.Lines.{line-limit, linesOf}
 use Rattle.sheets.specs.Links as Links
 use Rattle.sheets.specs.Links.{FaultFree, Loads, fine}
 use Rattle.sheets.specs.Reading.{lines-read}
@@ -22,6 +22,7 @@ use Rattle.sheets.specs.Tree.{SheetTree}
 use Rattle.sheets.specs.declared.Line.{Line}
 use Rattle.sheets.specs.declared.Read.{Read}
 use Rattle.sheets.proofs.Accepted.{some-line}
+use Rattle.sheets.proofs.Counting.{lines-long}
 use Rattle.sheets.proofs.Loading.{loads-lines, loads-refusal}
 use Rattle.sheets.proofs.OneAnswer.{small}
 use Rattle.sheets.proofs.Tree.Sheet.{sheet-tree}
@@ -62,7 +63,7 @@ module _ {sheet : List ℕ} {s : Read} (x : Links.Loaded sheet s) where
   pub ready-lines : {t : Table} → ReadyTable t → s .refusal ≡ 0 → Ready (take (t .rows) (t .cells)) (take (s .sheet .lines) (s .sheet .cells))
   ready-lines r e =
       let f = accepted (loads-lines x e) in
-      let n = length-map (take (s .sheet .lines) (s .sheet .cells)) lineOf in
+      let n = lines-long (take (s .sheet .lines) (s .sheet .cells)) in
       record {
         admissible = r .admissible;
         some-line = omega (arith, n, f .some);
