@@ -12,7 +12,7 @@ use Rattle.meaning.proofs.Codes.Names.{names-pos}
 use Rattle.table.specs.Rows.{rowOf, tableIn}
 use Rattle.table.specs.Written.{Exists}
 use Rattle.counts.specs.Counts.{Places, LookRows}
-use Rattle.codes.specs.Layout.{Width, Laid, Looking, Layout}
+use Rattle.codes.specs.Layout.{Width, Layout}
 
 -- a power is at most the product of it and a number that is not 0
 factor-le : (n w k : ℕ) → 0 < n → n * w ≤ k → w ≤ k

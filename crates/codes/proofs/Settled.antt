@@ -1,7 +1,7 @@
 -- What each kind of row says in a code, and so what settles it.
 use Prim.Native.Nat.{ℕ}
 use mathlib.Core.Bool.{Bool}
-use mathlib.Core.Logic.{_↔_, _⊎_, inl, inr}
+use mathlib.Core.Logic.{_⊎_, inl, inr}
 use mathlib.Core.Path.{_≡_}
 use Rattle.meaning.specs.Code.{nameIn, HasFlag, HasBit, HoldsIn, in-yes, in-is, in-isnot, in-left, in-right, in-both, in-go, in-stop, TrueIn}
 use Rattle.meaning.specs.Table.{Table, Row, rowAt, yes-row, no-row, is-row, isnot-row, any-row, all-row, go-row, stop-row}

@@ -1,7 +1,7 @@
 use table::Row;
 ghost use mathlib.Core.Bool.{_&&_, _||_};
 ghost use mathlib.Core.Path.{_≡_};
-ghost use Prim.Native.Nat.{ℕ, _<_, _≤_};
+ghost use Prim.Native.Nat.{_<_, _≤_};
 ghost use lib.ListN.{getD, length};
 ghost use Rattle.meaning.specs.Code.{TrueIn, Proper, Good};
 ghost use Rattle.meaning.specs.Table.{up, first, next};

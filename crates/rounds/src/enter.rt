@@ -1,6 +1,6 @@
 use crate::scan;
 use crate::scan::Beside;
-ghost use Prim.Native.Nat.{ℕ, _-_, _<_};
+ghost use Prim.Native.Nat.{_-_, _<_};
 ghost use Rattle.meaning.specs.Outcome.{Searched};
 ghost use Rattle.table.specs.Rows.{tableIn};
 ghost use Rattle.rounds.specs.Given.{Given};

@@ -1,7 +1,6 @@
 use crate::NONE;
 ghost use mathlib.Core.Path.{_≡_};
-ghost use mathlib.Core.List.{_++_};
-ghost use Prim.Native.Nat.{ℕ, _≤_};
+ghost use Prim.Native.Nat.{_≤_};
 ghost use lib.ListN.{length};
 ghost use Rattle.rounds.specs.Kept.{cleared, lent, Room, Cleared};
 ghost use Rattle.rounds.specs.Round.{running};

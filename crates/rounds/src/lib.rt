@@ -3,8 +3,7 @@ mod fill;
 mod scan;
 mod used;
 
-ghost use mathlib.Core.Path.{_≡_};
-ghost use Prim.Native.Nat.{ℕ, _≤_, _<_};
+ghost use Prim.Native.Nat.{_≤_, _<_};
 ghost use lib.ListN.{length};
 ghost use Rattle.codes.specs.Layout.{Laid};
 ghost use Rattle.table.specs.Rows.{tableIn};

@@ -3,7 +3,6 @@ mod tables;
 
 use table::Table;
 use tables::Reply;
-ghost use mathlib.Core.Path.{_≡_};
 ghost use Rattle.rounds.specs.Kept.{lent};
 ghost use Rattle.solver.specs.Solved.{Says, Replies, Solved, NameWidth};
 

@@ -2,8 +2,7 @@
 use rounds::Found;
 use table::Table;
 ghost use mathlib.Core.Path.{_≡_};
-ghost use Prim.Native.Nat.{ℕ, _*_, _^_, _≤_};
-ghost use lib.ListN.{length};
+ghost use Prim.Native.Nat.{_*_, _^_};
 ghost use Rattle.meaning.specs.Table.{looks};
 ghost use Rattle.table.specs.Rows.{tableIn, tableOf};
 ghost use Rattle.table.specs.Decides.{Decides};

@@ -1,7 +1,6 @@
 ghost use mathlib.Core.Path.{_≡_};
 ghost use mathlib.Core.List.{[]};
-ghost use Prim.Native.Nat.{ℕ, _<_};
-ghost use lib.ListN.{getD};
+ghost use Prim.Native.Nat.{_<_};
 ghost use Rattle.table.specs.Rows.{rowOf, rowBy, rowsOf, rowIn, Extended};
 
 // A row as it is written: numbers are kept as they stand in the text, also a name or a direction that does not exist.

@@ -1,4 +1,3 @@
-use borrow.Author.Needs.{needs}
 use borrow.Author.Tests.{ne-eqb}
 use Rattle.table.proofs.row_by.Statement.{statement}
 use Rattle.table.proofs.row_by.Tie as tie
