@@ -1,21 +1,24 @@
 // Refusals 1 to 7, or 1 to 6 for whoever does not search: from a text to a table.
 use loops::Checked;
 use table::Table;
+ghost use Rattle.counts.specs.Order.{Ordered};
 ghost use Rattle.intake.specs.Loading.{Accepts, Refuses, Answered, Judges};
 ghost use mathlib.Core.Bool.{true, false};
 ghost use mathlib.Core.Path.{_≡_};
-ghost use Rattle.table.specs.Rows.{rowsOf};
+ghost use Rattle.table.specs.Rows.{rowsOf, tableOf};
 ghost use lib.ListN.{length};
 
-// A table, with refusal 0; or a refusal and its place, with no row.
+// A table, with refusal 0; or a refusal and its place, with no row. In the order every row comes after those that it names as `any` or `all`.
 pub struct Loaded {
     pub refusal: usize,
     pub place: usize,
     pub table: Table,
+    pub order: [u8; Table::ROWS],
 }
 
 pub fn load(text: &[u8]) -> Loaded
     ensures { λ r. ⌜ Answered true (now (text .entry)) r ⌝ }
+    ensures order { λ r. ⌜ Ordered (tableOf (r .table)) (r .order) ⌝ }
 {
     take(text, true)
 }
@@ -23,6 +26,7 @@ pub fn load(text: &[u8]) -> Loaded
 // Refusals 1 to 6 alone, for whoever does not search: a table of any size.
 pub fn admit(text: &[u8]) -> Loaded
     ensures { λ r. ⌜ Answered false (now (text .entry)) r ⌝ }
+    ensures order { λ r. ⌜ Ordered (tableOf (r .table)) (r .order) ⌝ }
 {
     take(text, false)
 }
@@ -30,6 +34,7 @@ pub fn admit(text: &[u8]) -> Loaded
 // The text is read downwards first, and the table that it gives is judged as a whole.
 fn take(text: &[u8], sized: bool) -> Loaded
     ensures { λ r. ⌜ Answered sized (now (text .entry)) r ⌝ }
+    ensures order { λ r. ⌜ Ordered (tableOf (r .table)) (r .order) ⌝ }
 {
     let r = reader::read_text(text);
     let n = r.refusal;
@@ -45,39 +50,46 @@ fn take(text: &[u8], sized: bool) -> Loaded
 fn judge(table: Table, sized: bool) -> Loaded
     requires { ⌜ table .rows ≡ length (rowsOf table) ⌝ }
     ensures { λ r. ⌜ Judges sized table r ⌝ }
+    ensures order { λ r. ⌜ Ordered (tableOf (r .table)) (r .order) ⌝ }
 {
-    let c = loops::check(table);
+    let j = loops::check(table);
+    let c = j.verdict;
+    let order = j.order;
     match c {
-        Checked::Fine => accepted(table),
+        Checked::Fine => accepted(table, order),
         Checked::Missing(i) => refused(5, i),
         Checked::Looping(i) => refused(6, i),
         Checked::Large => {
             if sized {
                 refused(7, 0)
             } else {
-                accepted(table)
+                accepted(table, order)
             }
         }
     }
 }
 
-fn accepted(table: Table) -> Loaded
-    requires { ⌜ table .rows ≡ length (rowsOf table) ⌝ }
+fn accepted(table: Table, order: [u8; Table::ROWS]) -> Loaded
+    requires { ⌜ (table .rows ≡ length (rowsOf table)) × Ordered (tableOf table) order ⌝ }
     ensures { λ r. ⌜ Accepts (rowsOf table) r ⌝ }
+    ensures order { λ r. ⌜ Ordered (tableOf (r .table)) (r .order) ⌝ }
 {
     Loaded {
         refusal: 0,
         place: 0,
         table: table,
+        order: order,
     }
 }
 
 fn refused(number: usize, place: usize) -> Loaded
     ensures { λ r. ⌜ Refuses number place r ⌝ }
+    ensures order { λ r. ⌜ Ordered (tableOf (r .table)) (r .order) ⌝ }
 {
     Loaded {
         refusal: number,
         place: place,
         table: Table::new(),
+        order: [0u8; Table::ROWS],
     }
 }

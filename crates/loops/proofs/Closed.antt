@@ -31,16 +31,16 @@ pub free-of-loops : {rows : Table} {i : ℕ} → FirstOnLoop rows i → length r
 free-of-loops {rows} first h j o = first .none-before j (omega (arith, joined-there (loops rows .closure j j .1 (loops rows .turned j .0 o)))) o
 
 -- a pair of rows of the table that is found
-record Found (w : ℕ) (rows : Table) (m : List ℕ) (i j : ℕ) : Type 0 where
-  from : i < length rows
-  to : j < length rows
-  mark : Is (marked w m i j)
+pub record Found (w : ℕ) (rows : Table) (m : List ℕ) (i j : ℕ) : Type 0 where
+  pub from : i < length rows
+  pub to : j < length rows
+  pub mark : Is (marked w m i j)
 
 module _ (w : ℕ) (rows : Table) (m : List ℕ) (range : InRange rows) (closed : Closed w rows m) where
   settle : (i j : ℕ) → i < length rows → j < length rows → Is (given w rows m i j) → Found w rows m i j
   settle i j a b g = record { from = a; to = b; mark = closed .all i a j b .settled g }
 
-  all-found : {i j : ℕ} → Joined rows i j → Found w rows m i j
+  pub all-found : {i j : ℕ} → Joined rows i j → Found w rows m i j
   all-found (by-flat {i} {j} r) = settle i j (refers-there i r) (range .referred r) (given-flat w rows m i j r)
   all-found (by-turn {i} {j} k d e f) = settle i j (looks-there rows i e) (range .looked k f) (given-wrap w rows m i j d k k (looks-there rows k f) e (inl refl) f)
   all-found (by-wrap {i} {j} k l d e h f) = settle i j (looks-there rows i e) (range .looked l f) (given-wrap w rows m i j d k l (looks-there rows l f) e (inr (all-found h .mark)) f)

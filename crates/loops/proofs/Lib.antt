@@ -1,9 +1,12 @@
 pub mod Search
+pub mod Counting
 pub mod Told
 pub mod Given
 pub mod Marking
 pub mod Passes
 pub mod Closed
+pub mod Arranging
+pub mod Ordering
 pub mod Naming
 pub mod Judging
 pub mod Unique

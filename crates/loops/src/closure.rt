@@ -10,14 +10,13 @@ use crate::rules::given_by_rule;
 use crate::rules::is_marked;
 use table::Table;
 
-// The smallest row on a loop, or the number of rows.
-pub(crate) fn first_looping(cells: &[u32]) -> usize
-    requires { ⌜ (length (now cells) ≤ row-limit) × InRange (tableIn (now cells)) ⌝ }
-    ensures { λ r. ⌜ FirstOnLoop (tableIn (now (cells .entry))) r ⌝ }
+// The smallest row on a loop, or the number of rows, once the pairs are closed.
+pub(crate) fn first_looping(cells: &[u32], m: &mut [u8; PAIRS]) -> usize
+    requires { ⌜ (length (now cells) ≤ row-limit) × InRange (tableIn (now cells)) × Marks row-limit (tableIn (now cells)) (now m) ⌝ }
+    ensures { λ r. ⌜ FirstOnLoop (tableIn (now (cells .entry))) r × Closed row-limit (tableIn (now (cells .entry))) (now (m .exit)) ⌝ }
 {
-    let mut m = [0u8; PAIRS];
-    close(cells, &mut m);
-    first_marked(&m, cells.len())
+    close(cells, m);
+    first_marked(m, cells.len())
 }
 
 fn first_marked(m: &[u8; PAIRS], n: usize) -> usize

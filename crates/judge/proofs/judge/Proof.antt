@@ -9,19 +9,19 @@ admit-requires : tie.Need-admit-requires
 admit-requires c κs = search needs
 
 cast-refused : tie.Need-cast-refused
-cast-refused c = omega (arith, table-refusal (c .before .admit .ensures) (c .if1 .taken) .0)
+cast-refused c = omega (arith, table-refusal (c .before .admit .ensures .0) (c .if1 .taken) .0)
 
 cast-refused-2 : tie.Need-cast-refused-2
-cast-refused-2 c = omega (arith, table-refusal (c .before .admit .ensures) (c .if1 .taken) .1)
+cast-refused-2 c = omega (arith, table-refusal (c .before .admit .ensures .0) (c .if1 .taken) .1)
 
 refused-requires : tie.Need-refused-requires
 refused-requires c κs = search needs
 
 returns : tie.Need-returns
-returns c = refuses-table (c .before .before .admit .ensures) _ _ _ (c .before .if1 .taken) (c .refused .ensures)
+returns c = refuses-table (c .before .before .admit .ensures .0) _ _ _ (c .before .if1 .taken) (c .refused .ensures)
 
 judge-sheet-requires : tie.Need-judge-sheet-requires
-judge-sheet-requires c κs = ready-table (c .before .before .before .admit .ensures) (c .before .before .if1 .left)
+judge-sheet-requires c κs = ready-table (c .before .before .before .admit .ensures .0) (c .before .before .if1 .left)
 
 same-length : tie.Need-same-length
 same-length c = search needs
@@ -30,7 +30,7 @@ returns-2 : tie.Need-returns-2
 returns-2 c =
     let j = c .before .before in
     let e = j .before .before .before in
-    judges-both (e .before .admit .ensures) _ _ _ _ (e .if1 .left) (j .judge-sheet .ensures)
+    judges-both (e .before .admit .ensures .0) _ _ _ _ (e .if1 .left) (j .judge-sheet .ensures)
 
 pub judge-spec : {M : Type 1} → statement M
 judge-spec =

@@ -1,9 +1,11 @@
--- Each way out is one of the four judgements.
-use Rattle.loops.proofs.Judging.{judged-missing, judged-range, judged-looping, judged-large, judged-fine}
+-- Either a row that is named is not there, or all are and the other refusals are tried.
 use native.Mathlib.Omega.{arith}
-use Rattle.table.specs.Rows.{tableIn}
-use Rattle.counts.proofs.Laws.{table-long}
 use borrow.Author.Needs.{needs}
+use Rattle.meaning.specs.Table.{row-limit}
+use Rattle.table.specs.Rows.{tableIn}
+use Rattle.counts.proofs.Grown.{zeros}
+use Rattle.counts.proofs.Laws.{table-long}
+use Rattle.loops.proofs.Judging.{judged-missing, judged-range}
 use Rattle.loops.proofs.check_rows.Statement.{statement}
 use Rattle.loops.proofs.check_rows.Tie as tie
 
@@ -14,51 +16,17 @@ returns : tie.Need-returns
 returns c =
     let l = c .before .before .before .args .cells .now in
     let n = table-long l in
-    judged-missing (tableIn l) (c .before .first-missing .result) (c .before .first-missing .ensures) (omega arith)
+    record { judged = judged-missing (tableIn l) (c .before .first-missing .result) (c .before .first-missing .ensures) (omega arith); ordered = zeros row-limit }
 
-first-looping-requires : tie.Need-first-looping-requires
-first-looping-requires c κs =
+check-present-requires : tie.Need-check-present-requires
+check-present-requires c κs =
     let l = c .before .before .before .args .cells .now in
     let n = table-long l in
     (search needs, judged-range (tableIn l) (c .before .first-missing .result) (c .before .first-missing .ensures) (omega arith))
 
 returns-2 : tie.Need-returns-2
-returns-2 c =
-    let l = c .before .before .before .before .before .args .cells .now in
-    let n = table-long l in
-    let first = c .before .before .before .first-missing in
-    let range = judged-range (tableIn l) (first .result) (first .ensures) (omega arith) in
-    judged-looping (tableIn l) (c .before .first-looping .result) range (c .before .first-looping .ensures) (omega arith)
-
-size-of-requires : tie.Need-size-of-requires
-size-of-requires c κs = search needs
-
-returns-3 : tie.Need-returns-3
-returns-3 c =
-    let l = c .before .before .before .before .before .before .before .args .cells .now in
-    let n = table-long l in
-    let first = c .before .before .before .before .before .first-missing in
-    let on = c .before .before .before .first-looping in
-    let range = judged-range (tableIn l) (first .result) (first .ensures) (omega arith) in
-    judged-large (tableIn l) (on .result) range (on .ensures) (omega arith) (omega arith)
-
-returns-4 : tie.Need-returns-4
-returns-4 c =
-    let l = c .before .before .before .before .before .before .before .args .cells .now in
-    let n = table-long l in
-    let first = c .before .before .before .before .before .first-missing in
-    let on = c .before .before .before .first-looping in
-    let range = judged-range (tableIn l) (first .result) (first .ensures) (omega arith) in
-    judged-fine (tableIn l) (on .result) range (on .ensures) (omega arith) (omega arith)
+returns-2 c = search needs
 
 pub check-rows-spec : {M : Type 1} → statement M
 check-rows-spec =
-    tie.close
-    (tie.spec
-    first-missing-requires
-    returns
-    first-looping-requires
-    returns-2
-    size-of-requires
-    returns-3
-    returns-4)
+    tie.close (tie.spec first-missing-requires returns check-present-requires returns-2)

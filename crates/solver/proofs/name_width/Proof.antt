@@ -7,13 +7,13 @@ load-requires : tie.Need-load-requires
 load-requires c κs = search needs
 
 returns : tie.Need-returns
-returns c = no-width (c .before .load .ensures) (search needs)
+returns c = no-width (c .before .load .ensures .0) (search needs)
 
 width-of-requires : tie.Need-width-of-requires
-width-of-requires c κs = ready (c .before .before .load .ensures) (search needs)
+width-of-requires c κs = ready (c .before .before .load .ensures .0) (search needs)
 
 returns-2 : tie.Need-returns-2
-returns-2 c = table-width (c .before .before .before .load .ensures) _ (search needs) (c .width-of .ensures)
+returns-2 c = table-width (c .before .before .before .load .ensures .0) _ (search needs) (c .width-of .ensures)
 
 pub name-width-spec : {M : Type 1} → statement M
 name-width-spec = tie.close (tie.spec load-requires returns width-of-requires returns-2)

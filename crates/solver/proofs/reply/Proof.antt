@@ -8,16 +8,16 @@ load-requires : tie.Need-load-requires
 load-requires c κs = search needs
 
 cast-t11 : tie.Need-cast-t11
-cast-t11 c = omega (arith, small-refusal (c .before .load .ensures) (search needs) .0)
+cast-t11 c = omega (arith, small-refusal (c .before .load .ensures .0) (search needs) .0)
 
 cast-t12 : tie.Need-cast-t12
-cast-t12 c = omega (arith, small-refusal (c .before .load .ensures) (search needs) .1)
+cast-t12 c = omega (arith, small-refusal (c .before .load .ensures .0) (search needs) .1)
 
 returns : tie.Need-returns
-returns c = refused-reply (c .before .load .ensures) _ (search needs)
+returns c = refused-reply (c .before .load .ensures .0) _ (search needs)
 
 solve-table-requires : tie.Need-solve-table-requires
-solve-table-requires c κs = ready (c .before .before .before .before .before .before .load .ensures) (search needs)
+solve-table-requires c κs = ready (c .before .before .before .before .before .before .load .ensures .0) (search needs)
 
 same-length : tie.Need-same-length
 same-length c = search needs
@@ -32,7 +32,7 @@ same-length-4 : tie.Need-same-length-4
 same-length-4 c = search needs
 
 returns-2 : tie.Need-returns-2
-returns-2 c = solved-reply (c .before .before .before .before .before .before .before .before .before .before .before .before .before .before .before .load .ensures) _ _ _ (search needs) (c .before .before .before .before .before .before .before .before .solve-table .ensures)
+returns-2 c = solved-reply (c .before .before .before .before .before .before .before .before .before .before .before .before .before .before .before .load .ensures .0) _ _ _ (search needs) (c .before .before .before .before .before .before .before .before .solve-table .ensures)
 
 pub reply-spec : {M : Type 1} → statement M
 reply-spec =
