@@ -1,4 +1,4 @@
--- An accepted table is laid out by its bit places and look rows.
+-- An accepted table is laid out by its bit places, an order of its rows and its look rows.
 use Prim.Native.Nat.{ℕ, zero, suc, _*_, _^_, _<_, _≤_}
 use native.Mathlib.Omega.{arith}
 use native.Mathlib.Decide.{decLt}
@@ -12,7 +12,7 @@ use Rattle.meaning.proofs.Codes.Names.{names-pos}
 use Rattle.table.specs.Rows.{rowOf, tableIn}
 use Rattle.table.specs.Written.{Exists}
 use Rattle.counts.specs.Counts.{Places, LookRows}
-use Rattle.codes.specs.Layout.{Width, Layout}
+use Rattle.codes.specs.Layout.{Width, InOrder, Layout}
 
 -- a power is at most the product of it and a number that is not 0
 factor-le : (n w k : ℕ) → 0 < n → n * w ≤ k → w ≤ k
@@ -28,15 +28,17 @@ few-looks rows room = at (decLt 12 (looks rows))
         absurd (omega (arith, factor-le (names rows) (2 ^ looks rows) size-limit (names-pos rows) room))
     at (no h) = omega arith
 
-pub laid-out : {cells places found : List ℕ} {m : ℕ} → Accepted (tableIn cells) → m ≡ looks (tableIn cells)
+pub laid-out : {cells places order found : List ℕ} {m : ℕ} → Accepted (tableIn cells) → m ≡ looks (tableIn cells)
     → ((i : ℕ) → i < length cells → Exists (rowOf (getD cells i 0)))
     → length cells ≤ length places → Places (tableIn cells) places
+    → InOrder cells order
     → m ≤ length found → LookRows (tableIn cells) found
-    → Layout cells places found m
-laid-out {cells} a e x p places f found =
+    → Layout cells places order found m
+laid-out {cells} a e x p places o f found =
     let w = few-looks (tableIn cells) (a .room) in
     let width : Width cells _ = record { is-m = e; small = omega arith } in
     record {
-      laid = record { width = width; range = a .in-range; free = a .loop-free; enough = p; placed = places };
+      laid = record { width = width; range = a .in-range; enough = p; placed = places };
+      in-order = o;
       looking = record { width = width; exist = x; enough = f; found = found };
     }

@@ -5,3 +5,6 @@ pub mod Directions
 pub mod Fits
 pub mod Takes
 pub mod LaidOut
+pub mod Passing
+pub mod Packing
+pub mod Seeing

@@ -4,8 +4,8 @@ use mathlib.Core.Path.{_≡_}
 use Rattle.meaning.specs.Code.{TrueIn}
 use Rattle.meaning.specs.Table.{Table, rowAt, any-row, all-row}
 use Rattle.table.specs.Decides.{Decides}
-use Rattle.codes.specs.declared.Step.{Step}
-use Rattle.codes.specs.declared.Step.the-variants.{Known, Either, Both}
+use Rattle.codes.specs.declared.truths.Step.{Step}
+use Rattle.codes.specs.declared.truths.Step.the-variants.{Known, Either, Both}
 
 abbrev pub Settles : Table → ℕ → ℕ → Step → Type 0
 Settles rows code i (Known b) = Decides b (TrueIn rows code i)

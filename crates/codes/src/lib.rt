@@ -1,19 +1,23 @@
+pub mod sights;
+mod truths;
+
+use sights::sight;
 use table::Row;
 ghost use mathlib.Core.Bool.{_&&_, _||_};
 ghost use mathlib.Core.Path.{_≡_};
 ghost use Prim.Native.Nat.{_<_, _≤_};
 ghost use lib.ListN.{getD, length};
-ghost use Rattle.meaning.specs.Code.{TrueIn, Proper, Good};
+ghost use Rattle.meaning.specs.Code.{Proper, Good};
 ghost use Rattle.meaning.specs.Table.{up, first, next};
 ghost use Rattle.table.specs.Rows.{rowOf, dirOf, tableIn};
 ghost use Rattle.table.specs.Decides.{Decides};
 ghost use Rattle.codes.specs.Fits.{sideOf, FitsRow, Flagged};
-ghost use Rattle.codes.specs.Layout.{Laid, Looking, Layout};
+ghost use Rattle.codes.specs.Layout.{Looking, Layout};
 ghost use Rattle.codes.specs.Parts.{nameBy, flagBy, bitBy};
-ghost use Rattle.codes.specs.Settles.{Settles};
+ghost use Rattle.codes.specs.Sights.{Sees, Sights};
 
-// A table is lent as `cells`, exactly its rows; with it go m, the bit place of each row and the look rows (specs/Layout.antt). A code is
-// taken apart by shifts: 2^m is no constant.
+// A table is lent as `cells`, exactly its rows; with it go m, the bit place of each row, the order of the rows and the look rows
+// (specs/Layout.antt). A code is taken apart by shifts: 2^m is no constant.
 pub fn name_of(m: usize, code: usize) -> usize
     requires { ⌜ m < 64 ⌝ }
     ensures { λ r. ⌜ r ≡ nameBy m code ⌝ }
@@ -57,47 +61,10 @@ pub fn has_bit(code: usize, place: usize) -> bool
     (code >> place) % 2 == 1
 }
 
-// What settles a row in a code: it is known at once, or by two other rows.
-pub enum Step {
-    Known(bool),
-    Either(usize, usize),
-    Both(usize, usize),
-}
-
-fn step_of(cells: &[u32], places: &[u8], m: usize, row: usize, code: usize) -> Step
-    requires { ⌜ Laid (now cells) (now places) m × (row < length (now cells)) ⌝ }
-    ensures { λ r. ⌜ Settles (tableIn (now (cells .entry))) code row r ⌝ }
-{
-    let r = table::row_of(cells[row]);
-    match r {
-        Row::Yes => Step::Known(true),
-        Row::No => Step::Known(false),
-        Row::Is(n) => Step::Known(name_of(m, code) == wide(n)),
-        Row::Isnot(n) => Step::Known(name_of(m, code) != wide(n)),
-        Row::Any(i, j) => Step::Either(wide(i), wide(j)),
-        Row::All(i, j) => Step::Both(wide(i), wide(j)),
-        Row::Go(_, _) => Step::Known(has_bit(code, wide(places[row]))),
-        Row::Stop(d) => Step::Known(!has_flag(m, code, d)),
-    }
-}
-
 fn wide(x: u8) -> usize
     ensures { λ r. ⌜ r ≡ x ⌝ }
 {
     x as usize
-}
-
-// The truth of a row in a code, which follows references through `any` and `all`. They end because the row's rank falls at each call.
-pub fn truth(cells: &[u32], places: &[u8], m: usize, row: usize, code: usize) -> bool
-    requires { ⌜ Laid (now cells) (now places) m × (row < length (now cells)) ⌝ }
-    ensures { λ r. ⌜ Decides r (TrueIn (tableIn (now (cells .entry))) code row) ⌝ }
-{
-    let s = step_of(cells, places, m, row, code);
-    match s {
-        Step::Known(b) => b,
-        Step::Either(i, j) => truth(cells, places, m, i, code) || truth(cells, places, m, j, code),
-        Step::Both(i, j) => truth(cells, places, m, i, code) && truth(cells, places, m, j, code),
-    }
 }
 
 // The row whose bit has place j.
@@ -109,29 +76,31 @@ fn look_row(cells: &[u32], look: &[u8], j: usize) -> Row
     table::row_of(cells[row])
 }
 
-// Whether the look row of bit j lets code t take u in direction d, which is 1 or 2. Rows of the converse direction look from u at t.
+// Whether the look row of bit j lets code t take u in direction d, which is 1 or 2. Rows of the converse direction look from u at t. `own` and
+// `other` are what is kept of the two codes' truths.
 pub fn fits_row(
     cells: &[u32],
-    places: &[u8],
     look: &[u8],
     m: usize,
     d: u8,
     t: usize,
+    own: usize,
     u: usize,
+    other: usize,
     j: usize,
 ) -> bool
-    requires { ⌜ Layout (now cells) (now places) (now look) m × ((1 ≤ d) × (d ≤ 2)) × (j < m) ⌝ }
+    requires { ⌜ Looking (now cells) (now look) m × ((1 ≤ d) × (d ≤ 2)) × (j < m) × Sees (tableIn (now cells)) (now look) m t own × Sees (tableIn (now cells)) (now look) m u other ⌝ }
     ensures { λ r. ⌜ Decides r (FitsRow (tableIn (now (cells .entry))) (sideOf d) t u (getD (now (look .entry)) j 0)) ⌝ }
 {
     let r = look_row(cells, look, j);
-    let Row::Go(e, i) = r else {
+    let Row::Go(e, _) = r else {
         return true;
     };
     if e == d {
-        return has_bit(t, j) == truth(cells, places, m, wide(i), u);
+        return has_bit(t, j) == has_bit(other, j);
     }
     if e == d + 2 {
-        return has_bit(u, j) == truth(cells, places, m, wide(i), t);
+        return has_bit(u, j) == has_bit(own, j);
     }
     true
 }
@@ -163,12 +132,20 @@ pub fn proper(cells: &[u32], look: &[u8], m: usize, code: usize) -> bool
     true
 }
 
-pub fn good(cells: &[u32], places: &[u8], m: usize, code: usize) -> bool
-    requires { ⌜ Laid (now cells) (now places) m × (0 < length (now cells)) ⌝ }
+pub fn good(
+    cells: &[u32],
+    places: &[u8],
+    order: &[u8],
+    look: &[u8],
+    m: usize,
+    sights: &[u16],
+    code: usize,
+) -> bool
+    requires { ⌜ Layout (now cells) (now places) (now order) (now look) m × Sights (tableIn (now cells)) (now look) m (now sights) ⌝ }
     ensures { λ r. ⌜ Decides r (Good (tableIn (now (cells .entry))) code) ⌝ }
 {
     if has_parent(m, code) {
         return false;
     }
-    truth(cells, places, m, 0, code)
+    has_bit(sight(cells, places, order, look, m, sights, code), m)
 }

@@ -1,4 +1,5 @@
 pub mod Places
+pub mod Seen
 pub mod Neighbours
 pub mod Halfway
 pub mod Visits

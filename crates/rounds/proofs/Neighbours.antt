@@ -5,7 +5,7 @@ use native.Mathlib.Decide.{decLt}
 use mathlib.Core.List.{List}
 use mathlib.Core.Logic.{_≢_}
 use mathlib.Core.Path.{_≡_, refl}
-use lib.ListN.{getD, length, length-map}
+use lib.ListN.{getD}
 use Rattle.codes.specs.Fits.{sideOf, FitsRow}
 use Rattle.codes.proofs.Takes.{flag-back, takes-rows}
 use Rattle.meaning.specs.Code.{codes, HasFlag}
@@ -40,14 +40,11 @@ module _ {rows : Table} {round : List ℕ} {k t : ℕ} {s : Side} where
   found-none f a (least {u} p m) e = absurd (a u (p .is-code) (p .entered) e)
   found-none f a (none g) e = record { flagged = f; none-taken = g }
 
-module _ {cells places look : List ℕ} {m c : ℕ} (g : Given cells places look m c) where
+module _ {cells places order look : List ℕ} {m c : ℕ} (g : Given cells places order look m c) where
   -- 16 × 4,096 codes at the most
   pub few-codes : c ≤ 65536
   unfolding codes
   few-codes = omega (arith, g .count, g .accepted .room)
-
-  pub some-cell : 0 < length cells
-  some-cell = simp length-map at (g .accepted .some-row)
 
   pub narrow : m < 64
   narrow = omega (arith, g .layout .laid .width .small)

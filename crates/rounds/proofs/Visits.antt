@@ -22,7 +22,7 @@ use Rattle.rounds.proofs.Places.{all-same, all-kept, kept-same, kept-st
 pub not-both : {A : Type 0} → _≡_ {A = Bool} true false → A
 not-both e = absurd (let z : _≡_ {A = ℕ} 0 1 = cc in omega arith)
 
-module _ {cells places look : List ℕ} {m c : ℕ} (g : Given cells places look m c) {k t : ℕ} {r f n : List ℕ} (room : Room c (running r f n)) (l : t < c)
+module _ {cells places order look : List ℕ} {m c : ℕ} (g : Given cells places order look m c) {k t : ℕ} {r f n : List ℕ} (room : Room c (running r f n)) (l : t < c)
     (h : Halfway (tableIn cells) k t (running r f n)) where
   is-code : t < codes (tableIn cells)
   is-code = rw (g .count) at l

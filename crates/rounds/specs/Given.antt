@@ -8,7 +8,7 @@ use Rattle.meaning.specs.Outcome.{Accepted}
 use Rattle.table.specs.Rows.{tableIn}
 
 -- An accepted table, laid out, and the number of its codes.
-pub record Given (cells places look : List ℕ) (m c : ℕ) : Type 0 where
-  pub layout : Layout cells places look m
+pub record Given (cells places order look : List ℕ) (m c : ℕ) : Type 0 where
+  pub layout : Layout cells places order look m
   pub accepted : Accepted (tableIn cells)
   pub count : c ≡ codes (tableIn cells)

@@ -17,6 +17,8 @@ use Rattle.reader.specs.Reading.{Sound, more}
 use Rattle.counts.specs.Counts.{Places, LookRows}
 use Rattle.table.specs.Decides.{Decides}
 use Rattle.table.proofs.Decides.{refuted}
+use Rattle.counts.specs.Order.{Ordered}
+use Rattle.codes.specs.Layout.{InOrder}
 use Rattle.codes.proofs.LaidOut.{laid-out}
 use Rattle.rounds.specs.Given.{Given}
 use Rattle.rounds.specs.Kept as R
@@ -43,14 +45,20 @@ exists-at [] s i h = absurd (omega arith)
 exists-at (x ∷ xs) (more w e s) zero h = e
 exists-at (x ∷ xs) (more w e s) (suc i) h = exists-at xs s i (omega arith)
 
-module _ {cells places found : List ℕ} {m c : ℕ} (r : Ready cells) where
-  pub given-for : (m ≡ looks (tableIn cells)) × (m ≤ length cells) → length places ≡ 48 → Places (tableIn cells) places
-      → length found ≡ 48 → LookRows (tableIn cells) found → c ≡ codes (tableIn cells) → Given cells places found m c
-  given-for e p places-are f rows-are n =
+-- there is a step for each row
+pub in-order : {cells order : List ℕ} → Ready cells → length order ≡ 48 → Ordered (tableIn cells) order → InOrder cells order
+in-order {cells} r e o =
+    let l = few-cells cells r in
+    record { some = simp (length-map, length-map) at (r .accepted .some-row); few = l; enough = omega arith; ordered = o }
+
+module _ {cells places order found : List ℕ} {m c : ℕ} (r : Ready cells) where
+  pub given-for : (m ≡ looks (tableIn cells)) × (m ≤ length cells) → length places ≡ 48 → Places (tableIn cells) places → InOrder cells order
+      → length found ≡ 48 → LookRows (tableIn cells) found → c ≡ codes (tableIn cells) → Given cells places order found m c
+  given-for e p places-are o f rows-are n =
       let l = few-cells cells r in
       let u : length cells ≤ length places = omega arith in
       let v : m ≤ length found = omega (arith, e .1) in
-      record { layout = laid-out (r .accepted) (e .0) (exists-at cells (r .sound)) u places-are v rows-are; accepted = r .accepted; count = n }
+      record { layout = laid-out (r .accepted) (e .0) (exists-at cells (r .sound)) u places-are o v rows-are; accepted = r .accepted; count = n }
 
 pub few : {cells : List ℕ} → Ready cells → length cells ≤ 48
 few {cells} r = few-cells cells r

@@ -75,7 +75,8 @@ fn reply(
         return Reply::Refused(n as u32, p as u32);
     }
     let t = l.table;
-    tables::solve_table(t, round, first, next, used)
+    let order = l.order;
+    tables::solve_table(t, order, round, first, next, used)
 }
 
 // How many codes a name has: a code's name is the code divided by it. 0 where the text is refused.

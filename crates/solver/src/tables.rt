@@ -6,6 +6,8 @@ ghost use Prim.Native.Nat.{_*_, _^_};
 ghost use Rattle.meaning.specs.Table.{looks};
 ghost use Rattle.table.specs.Rows.{tableIn, tableOf};
 ghost use Rattle.table.specs.Decides.{Decides};
+ghost use Rattle.counts.specs.Order.{Ordered};
+ghost use Rattle.codes.specs.Layout.{InOrder};
 ghost use Rattle.rounds.specs.Kept.{lent};
 ghost use Rattle.rounds.specs.Found.{verdictOf};
 ghost use Rattle.solver.specs.Solved.{Room, Answers, Solves, numbered};
@@ -21,51 +23,54 @@ pub enum Reply {
 
 pub fn solve_table(
     table: Table,
+    order: [u8; Table::ROWS],
     round: &mut [u16],
     first: &mut [u16],
     next: &mut [u16],
     used: &mut [u8],
 ) -> Reply
-    requires { ⌜ ReadyTable table ⌝ }
+    requires { ⌜ ReadyTable table × Ordered (tableOf table) order ⌝ }
     ensures { λ r. ⌜ Solves (tableOf table) (lent (now (round .entry)) (now (first .entry)) (now (next .entry)) (now (used .entry))) (lent (now (round .exit)) (now (first .exit)) (now (next .exit)) (now (used .exit))) r ⌝ }
 {
     let cells = table.cells;
     let n = table.rows;
-    solve_rows(&cells[..n], round, first, next, used)
+    solve_rows(&cells[..n], &order, round, first, next, used)
 }
 
 fn solve_rows(
     cells: &[u32],
+    order: &[u8],
     round: &mut [u16],
     first: &mut [u16],
     next: &mut [u16],
     used: &mut [u8],
 ) -> Reply
-    requires { ⌜ Ready (now cells) ⌝ }
+    requires { ⌜ Ready (now cells) × InOrder (now cells) (now order) ⌝ }
     ensures { λ r. ⌜ Solves (tableIn (now (cells .entry))) (lent (now (round .entry)) (now (first .entry)) (now (next .entry)) (now (used .entry))) (lent (now (round .exit)) (now (first .exit)) (now (next .exit)) (now (used .exit))) r ⌝ }
 {
     let c = counts::size_of(cells) * 16;
     if has_room(c, round, first, next, used) {
-        return search_rows(cells, c, round, first, next, used);
+        return search_rows(cells, order, c, round, first, next, used);
     }
     Reply::Refused(8, 0)
 }
 
 fn search_rows(
     cells: &[u32],
+    order: &[u8],
     c: usize,
     round: &mut [u16],
     first: &mut [u16],
     next: &mut [u16],
     used: &mut [u8],
 ) -> Reply
-    requires { ⌜ Ready (now cells) × (c ≡ codes (tableIn (now cells))) × Room c (lent (now round) (now first) (now next) (now used)) ⌝ }
+    requires { ⌜ Ready (now cells) × InOrder (now cells) (now order) × (c ≡ codes (tableIn (now cells))) × Room c (lent (now round) (now first) (now next) (now used)) ⌝ }
     ensures { λ r. ⌜ Answers (tableIn (now (cells .entry))) (lent (now (round .entry)) (now (first .entry)) (now (next .entry)) (now (used .entry))) (lent (now (round .exit)) (now (first .exit)) (now (next .exit)) (now (used .exit))) r ⌝ }
 {
     let m = counts::looks_of(cells);
     let places = counts::places_of(cells);
     let look = counts::look_rows_of(cells);
-    let found = rounds::search(cells, &places, &look, m, c, round, first, next, used);
+    let found = rounds::search(cells, &places, order, &look, m, c, round, first, next, used);
     reply_of(found)
 }
 

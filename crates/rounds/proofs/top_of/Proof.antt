@@ -4,17 +4,17 @@ use native.Mathlib.Omega.{arith}
 use borrow.Author.Count.{below-more}
 use borrow.Author.Needs.{needs}
 use Rattle.table.proofs.Decides.{refuted}
-use Rattle.rounds.proofs.Neighbours.{not-less}
+use Rattle.rounds.proofs.Neighbours.{not-less, few-codes}
 use Rattle.rounds.specs.Ended.{GoodIn}
 use Rattle.table.specs.Rows.{tableIn}
 use Rattle.rounds.proofs.top_of.Statement.{statement}
 use Rattle.rounds.proofs.top_of.Tie as tie
 
 abbrev Inv-loop : tie.InvT-loop
-Inv-loop cells places m c round k t₀ t = (t ≤ c) × ((w : ℕ) → w < t → GoodIn (tableIn cells) c round k w → ⊥)
+Inv-loop cells places order look m c sights round k t₀ t = (t ≤ c) × ((w : ℕ) → w < t → GoodIn (tableIn cells) c round k w → ⊥)
 
 abbrev μ-loop : tie.MeasureT-loop
-μ-loop cells places m c round k t₀ t = c - t
+μ-loop cells places order look m c sights round k t₀ t = c - t
 
 loop-holds : tie.Need-loop-holds Inv-loop μ-loop
 loop-holds c = (omega arith, λ w l. absurd (omega arith))
@@ -38,11 +38,13 @@ loop-again c =
 
 good-requires : tie.Need-good-requires Inv-loop μ-loop
 good-requires c κs =
-    let pre = c .before .before .before .before .before .before .before .pre in
-    (pre .0, pre .1)
+    let pre = c .before .before .before .before .before .before .before .before .before .before .pre in
+    (pre .0 .layout, pre .2)
 
-cast-t13 : tie.Need-cast-t13 Inv-loop μ-loop
-cast-t13 c = search needs
+cast-t16 : tie.Need-cast-t16 Inv-loop μ-loop
+cast-t16 c =
+    let pre = c .before .before .before .before .before .before .before .before .before .before .before .before .pre in
+    omega (arith, few-codes (pre .0))
 
 returns : tie.Need-returns Inv-loop μ-loop
 returns c =
@@ -78,7 +80,7 @@ top-of-spec =
     loop-less
     loop-again
     good-requires
-    cast-t13
+    cast-t16
     returns
     add-t-2
     loop-less-2

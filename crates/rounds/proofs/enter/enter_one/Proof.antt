@@ -17,24 +17,24 @@ slice-read-if1 c = search needs
 
 returns : tie.Need-returns
 returns c =
-    let pre = c .before .before .before .before .before .before .before .before .pre in
+    let pre = c .before .before .before .before .before .before .before .before .before .before .pre in
     entered-before (pre .0) (pre .1) (pre .2) (pre .3) (c .if1 .taken)
 
 proper-requires : tie.Need-proper-requires
 proper-requires c κs =
-    let pre = c .before .before .before .before .before .before .before .before .pre in
+    let pre = c .before .before .before .before .before .before .before .before .before .before .pre in
     pre .0 .layout .looking
 
 returns-2 : tie.Need-returns-2
 returns-2 c =
-    let pre = c .before .before .before .before .before .before .before .before .before .before .pre in
+    let pre = c .before .before .before .before .before .before .before .before .before .before .before .before .pre in
     let if1 = c .before .before .if1 in
     not-proper (pre .0) (pre .1) (pre .2) (pre .3) (if1 .left) (refuted (c .before .proper .ensures) (not-true (c .before .proper .result) (c .if2 .taken)))
 
 settle-requires : tie.Need-settle-requires
 settle-requires c κs =
-    let pre = c .before .before .before .before .before .before .before .before .before .before .before .pre in
-    (pre .0, pre .1 .room-round, (omega arith, omega arith), none-absent (pre .0) (pre .1) (pre .2) (pre .3))
+    let pre = c .before .before .before .before .before .before .before .before .before .before .before .before .before .pre in
+    (pre .0, pre .1 .room-round, (omega arith, omega arith), none-absent (pre .0) (pre .1) (pre .2) (pre .3), pre .4)
 
 enum-known-a : tie.Need-enum-known-a
 enum-known-a c = search needs
@@ -47,15 +47,15 @@ same-length c = search needs
 
 returns-3 : tie.Need-returns-3
 returns-3 c =
-    let pre = c .before .before .before .before .before .before .before .before .before .before .before .before .before .before .pre in
+    let pre = c .before .before .before .before .before .before .before .before .before .before .before .before .before .before .before .before .pre in
     let if1 = c .before .before .before .before .before .before .if1 in
     let settle = c .before .before .settle in
     stuck-there (pre .0) (pre .1) (pre .2) (pre .3) (if1 .left) first (settle .ensures) (c .enum-told .given .1)
 
 settle-requires-2 : tie.Need-settle-requires-2
 settle-requires-2 c κs =
-    let pre = c .before .before .before .before .before .before .before .before .before .before .before .before .before .before .before .before .pre in
-    (pre .0, pre .1 .room-round, (omega arith, omega arith), none-absent (pre .0) (pre .1) (pre .2) (pre .3))
+    let pre = c .before .before .before .before .before .before .before .before .before .before .before .before .before .before .before .before .before .before .pre in
+    (pre .0, pre .1 .room-round, (omega arith, omega arith), none-absent (pre .0) (pre .1) (pre .2) (pre .3), pre .4)
 
 enum-known-b : tie.Need-enum-known-b
 enum-known-b c = search needs
@@ -68,34 +68,40 @@ same-length-2 c = search needs
 
 returns-4 : tie.Need-returns-4
 returns-4 c =
-    let pre = c .before .before .before .before .before .before .before .before .before .before .before .before .before .before .before .before .before .before .before .pre in
+    let pre = c .before .before .before .before .before .before .before .before .before .before .before .before .before .before .before .before .before .before .before .before .before .pre in
     let if1 = c .before .before .before .before .before .before .before .before .before .before .before .if1 in
     let settle2 = c .before .before .settle2 in
     stuck-there (pre .0) (pre .1) (pre .2) (pre .3) (if1 .left) next (settle2 .ensures) (c .enum-told2 .given .1)
 
 mul-round : tie.Need-mul-round
 mul-round c =
-    let pre = c .before .before .before .before .before .before .before .before .before .before .before .before .before .before .before .before .before .before .before .before .pre in
+    let pre = c .before .before .before .before .before .before .before .before .before .before .before .before .before .before .before .before .before .before .before .before .before .before .pre in
     omega (arith, few-codes (pre .0))
 
 slice-write-round : tie.Need-slice-write-round
-slice-write-round c = search needs
+slice-write-round c =
+    let pre = c .before .before .before .before .before .before .before .before .before .before .before .before .before .before .before .before .before .before .before .before .before .before .pre in
+    omega (arith, pre .1 .room-round, pre .2)
 
 mul-first : tie.Need-mul-first
 mul-first c =
-    let pre = c .before .before .before .before .before .before .before .before .before .before .before .before .before .before .before .before .before .before .before .before .pre in
+    let pre = c .before .before .before .before .before .before .before .before .before .before .before .before .before .before .before .before .before .before .before .before .before .before .pre in
     omega (arith, few-codes (pre .0))
 
 slice-write-first : tie.Need-slice-write-first
-slice-write-first c = search needs
+slice-write-first c =
+    let pre = c .before .before .before .before .before .before .before .before .before .before .before .before .before .before .before .before .before .before .before .before .before .before .pre in
+    omega (arith, pre .1 .room-first, pre .2)
 
 mul-next : tie.Need-mul-next
 mul-next c =
-    let pre = c .before .before .before .before .before .before .before .before .before .before .before .before .before .before .before .before .before .before .before .before .pre in
+    let pre = c .before .before .before .before .before .before .before .before .before .before .before .before .before .before .before .before .before .before .before .before .before .before .pre in
     omega (arith, few-codes (pre .0))
 
 slice-write-next : tie.Need-slice-write-next
-slice-write-next c = search needs
+slice-write-next c =
+    let pre = c .before .before .before .before .before .before .before .before .before .before .before .before .before .before .before .before .before .before .before .before .before .before .pre in
+    omega (arith, pre .1 .room-next, pre .2)
 
 same-length-3 : tie.Need-same-length-3
 same-length-3 c = search needs
@@ -108,7 +114,7 @@ same-length-5 c = search needs
 
 returns-5 : tie.Need-returns-5
 returns-5 c =
-    let pre = c .before .before .before .before .before .before .before .before .before .before .before .before .before .before .before .before .before .before .before .before .pre in
+    let pre = c .before .before .before .before .before .before .before .before .before .before .before .before .before .before .before .before .before .before .before .before .before .before .pre in
     let if1 = c .before .before .before .before .before .before .before .before .before .before .before .before .if1 in
     let proper = c .before .before .before .before .before .before .before .before .before .before .before .proper in
     let if2 = c .before .before .before .before .before .before .before .before .before .before .if2 in

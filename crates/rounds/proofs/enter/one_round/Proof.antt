@@ -13,22 +13,22 @@ use Rattle.rounds.proofs.enter.one_round.Statement.{statement}
 use Rattle.rounds.proofs.enter.one_round.Tie as tie
 
 abbrev Inv-loop : tie.InvT-loop
-Inv-loop cells places look m c round₀ firsts₀ nexts₀ k any₀ t₀ round firsts nexts any t = (t ≤ c) × Going (tableIn cells) k t any (running round₀ firsts₀ nexts₀) (running round firsts nexts)
+Inv-loop cells places order look m c sights round₀ firsts₀ nexts₀ k any₀ t₀ round firsts nexts any t = (t ≤ c) × Going (tableIn cells) k t any (running round₀ firsts₀ nexts₀) (running round firsts nexts)
 
 abbrev μ-loop : tie.MeasureT-loop
-μ-loop cells places look m c round₀ firsts₀ nexts₀ k any₀ t₀ round firsts nexts any t = c - t
+μ-loop cells places order look m c sights round₀ firsts₀ nexts₀ k any₀ t₀ round firsts nexts any t = c - t
 
 loop-holds : tie.Need-loop-holds Inv-loop μ-loop
 loop-holds c =
-    let pre = c .before .before .before .before .before .before .pre in
+    let pre = c .before .before .before .before .before .before .before .before .pre in
     (omega arith, going-start (pre .2) (pre .3))
 
 enter-one-requires : tie.Need-enter-one-requires Inv-loop μ-loop
 enter-one-requires c κs =
-    let pre = c .before .before .before .before .before .before .before .before .before .before .before .pre in
+    let pre = c .before .before .before .before .before .before .before .before .before .before .before .before .before .pre in
     let loop = c .before .before .before .before .loop in
     let loop-test = c .before .before .before .loop-test in
-    (pre .0, room-kept (pre .1) (loop .inv .1 .kept), loop-test .taken, loop .inv .1 .halfway)
+    (pre .0, room-kept (pre .1) (loop .inv .1 .kept), loop-test .taken, loop .inv .1 .halfway, pre .4)
 
 add-t : tie.Need-add-t Inv-loop μ-loop
 add-t c = search needs
@@ -53,8 +53,8 @@ same-length-3 c = search needs
 
 returns : tie.Need-returns Inv-loop μ-loop
 returns c =
-    let args = c .before .before .before .before .before .before .before .before .args in
-    let pre = c .before .before .before .before .before .before .before .before .pre in
+    let args = c .before .before .before .before .before .before .before .before .before .before .args in
+    let pre = c .before .before .before .before .before .before .before .before .before .before .pre in
     let e : c .before .loop .t ≡ codes (tableIn (args .cells .now)) = omega (arith, pre .0 .count) in
     going-over (pre .3) (rw e at (c .before .loop .inv .1))
 

@@ -15,16 +15,21 @@ use Rattle.rounds.proofs.scan.neighbour.Statement.{statement}
 use Rattle.rounds.proofs.scan.neighbour.Tie as tie
 
 abbrev Inv-loop : tie.InvT-loop
-Inv-loop cells places look m c round k d t found u₀ j₀ u j = (j ≤ m) × (u ≡ u₀) × ((i : ℕ) → i < j → FitsRow (tableIn cells) (sideOf d) t u₀ (getD look i 0))
+Inv-loop cells places order look m c sights round k d t own found u₀ other j₀ u j = (j ≤ m) × (u ≡ u₀) × ((i : ℕ) → i < j → FitsRow (tableIn cells) (sideOf d) t u₀ (getD look i 0))
 
 abbrev μ-loop : tie.MeasureT-loop
-μ-loop cells places look m c round k d t found u₀ j₀ u j = m - j
+μ-loop cells places order look m c sights round k d t own found u₀ other j₀ u j = m - j
 
 abbrev Inv-codes : tie.InvT-codes
-Inv-codes cells places look m c round k d t found₀ u₀ found u = (u ≤ c) × (found ≡ 65535) × ((w : ℕ) → w < u → Taken (tableIn cells) round k (sideOf d) t w → ⊥)
+Inv-codes cells places order look m c sights round k d t own found₀ u₀ found u = (u ≤ c) × (found ≡ 65535) × ((w : ℕ) → w < u → Taken (tableIn cells) round k (sideOf d) t w → ⊥)
 
 abbrev μ-codes : tie.MeasureT-codes
-μ-codes cells places look m c round k d t found₀ u₀ found u = c - u
+μ-codes cells places order look m c sights round k d t own found₀ u₀ found u = c - u
+
+sight-requires : tie.Need-sight-requires Inv-loop μ-loop Inv-codes μ-codes
+sight-requires c κs =
+    let pre = c .before .before .before .before .before .before .pre in
+    (pre .0 .layout, pre .4)
 
 codes-holds : tie.Need-codes-holds Inv-loop μ-loop Inv-codes μ-codes
 codes-holds c = (search needs, refl, λ w l. absurd (omega arith))
@@ -34,7 +39,7 @@ add-candidate c = search needs
 
 candidate-requires : tie.Need-candidate-requires Inv-loop μ-loop Inv-codes μ-codes
 candidate-requires c κs =
-    let pre = c .before .before .before .before .before .before .pre in
+    let pre = c .before .before .before .before .before .before .before .before .before .pre in
     (search needs, narrow (pre .0))
 
 add-u : tie.Need-add-u Inv-loop μ-loop Inv-codes μ-codes
@@ -46,16 +51,23 @@ codes-less c = search needs
 codes-again : tie.Need-codes-again Inv-loop μ-loop Inv-codes μ-codes
 codes-again c =
     let codes = c .before .before .before .codes in
-    let pre = c .before .before .before .before .before .before .before .before .pre in
+    let pre = c .before .before .before .before .before .before .before .before .before .before .before .pre in
     (omega arith, codes .inv .1, below-more _ (codes .u) (codes .inv .2) (no-candidate (pre .0) (pre .2) (codes .u) (refuted (c .before .candidate .ensures) (not-true (c .before .candidate .result) (c .if1 .taken)))))
+
+sight-requires-2 : tie.Need-sight-requires-2 Inv-loop μ-loop Inv-codes μ-codes
+sight-requires-2 c κs =
+    let pre = c .before .before .before .before .before .before .before .before .before .before .before .pre in
+    (pre .0 .layout, pre .4)
 
 loop-holds : tie.Need-loop-holds Inv-loop μ-loop Inv-codes μ-codes
 loop-holds c = (search needs, refl, λ i l. absurd (omega arith))
 
 fits-row-requires : tie.Need-fits-row-requires Inv-loop μ-loop Inv-codes μ-codes
 fits-row-requires c κs =
-    let pre = c .before .before .before .before .before .before .before .before .before .before .pre in
-    (pre .0 .layout, pre .2, c .loop-test .taken)
+    let pre = c .before .before .before .before .before .before .before .before .before .before .before .before .before .before .pre in
+    let own = c .before .before .before .before .before .before .before .sight in
+    let e = c .before .loop .inv .1 in
+    (pre .0 .layout .looking, pre .2, c .loop-test .taken, own .ensures, rw e (c .before .before .sight2 .ensures))
 
 add-u-2 : tie.Need-add-u-2 Inv-loop μ-loop Inv-codes μ-codes
 add-u-2 c = search needs
@@ -65,9 +77,9 @@ codes-less-2 c = search needs
 
 codes-again-2 : tie.Need-codes-again-2 Inv-loop μ-loop Inv-codes μ-codes
 codes-again-2 c =
-    let codes = c .before .before .before .before .before .before .before .codes in
+    let codes = c .before .before .before .before .before .before .before .before .codes in
     let loop = c .before .before .before .loop in
-    let pre = c .before .before .before .before .before .before .before .before .before .before .before .before .pre in
+    let pre = c .before .before .before .before .before .before .before .before .before .before .before .before .before .before .before .before .pre in
     let loop-test = c .before .before .loop-test in
     let u = codes .u in
     let e = loop .inv .1 in
@@ -87,21 +99,21 @@ loop-again c =
 
 cast-found : tie.Need-cast-found Inv-loop μ-loop Inv-codes μ-codes
 cast-found c =
-    let pre = c .before .before .before .before .before .before .before .before .before .before .pre in
+    let pre = c .before .before .before .before .before .before .before .before .before .before .before .before .before .before .pre in
     omega (arith, few-codes (pre .0))
 
 returns : tie.Need-returns Inv-loop μ-loop Inv-codes μ-codes
 returns c =
-    let pre = c .before .before .before .before .before .before .pre in
+    let pre = c .before .before .before .before .before .before .before .before .before .pre in
     let e = pre .0 .count in rw (c .before .codes .inv .1) (least-none (c .before .codes .inv .2) (λ w p. rw e (p .is-code)) (c .codes-test .left))
 
 returns-2 : tie.Need-returns-2 Inv-loop μ-loop Inv-codes μ-codes
 returns-2 c =
-    let codes = c .before .before .before .before .before .codes in
-    let pre = c .before .before .before .before .before .before .before .before .before .before .pre in
-    let codes-test = c .before .before .before .before .codes-test in
-    let candidate = c .before .before .before .candidate in
-    let if1 = c .before .before .if1 in
+    let codes = c .before .before .before .before .before .before .codes in
+    let pre = c .before .before .before .before .before .before .before .before .before .before .before .before .before .before .pre in
+    let codes-test = c .before .before .before .before .before .codes-test in
+    let candidate = c .before .before .before .before .candidate in
+    let if1 = c .before .before .before .if1 in
     let e = c .before .loop .inv .1 in
     rw e
     (least-at (codes .inv .2) (taken (pre .0) (pre .2) (codes .u) (codes-test .taken) (candidate .ensures .sound (not-false (candidate .result) (if1 .left))) (pre .3) (λ i l. c .before .loop .inv .2 i (omega arith))))
@@ -114,12 +126,14 @@ neighbour-spec =
     μ-loop
     Inv-codes
     μ-codes
+    sight-requires
     codes-holds
     add-candidate
     candidate-requires
     add-u
     codes-less
     codes-again
+    sight-requires-2
     loop-holds
     fits-row-requires
     add-u-2

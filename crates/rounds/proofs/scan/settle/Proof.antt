@@ -8,19 +8,19 @@ use Rattle.rounds.proofs.scan.settle.Tie as tie
 
 has-flag-requires : tie.Need-has-flag-requires
 has-flag-requires c κs =
-    let pre = c .before .before .before .before .pre in
+    let pre = c .before .before .before .before .before .before .pre in
     narrow (pre .0)
 
 neighbour-requires : tie.Need-neighbour-requires
 neighbour-requires c κs =
-    let pre = c .before .before .before .before .before .before .pre in
-    let args = c .before .before .before .before .before .before .args in
-    (pre .0, pre .1, pre .2, flag-forth (pre .0 .layout .looking) (args .d) (args .t) (pre .2) (c .before .has-flag .ensures) .sound (c .if1 .taken))
+    let pre = c .before .before .before .before .before .before .before .before .pre in
+    let args = c .before .before .before .before .before .before .before .before .args in
+    (pre .0, pre .1, pre .2, flag-forth (pre .0 .layout .looking) (args .d) (args .t) (pre .2) (c .before .has-flag .ensures) .sound (c .if1 .taken), pre .4)
 
 returns : tie.Need-returns
 returns c =
-    let pre = c .before .before .before .before .before .before .before .before .pre in
-    let args = c .before .before .before .before .before .before .before .before .args in
+    let pre = c .before .before .before .before .before .before .before .before .before .before .pre in
+    let args = c .before .before .before .before .before .before .before .before .before .before .args in
     let has-flag = c .before .before .before .has-flag in
     let if1 = c .before .before .if1 in
     let e = pre .0 .count in
@@ -32,8 +32,8 @@ returns-2 c = found-some (c .before .neighbour .ensures) (c .if2 .left)
 
 returns-3 : tie.Need-returns-3
 returns-3 c =
-    let pre = c .before .before .before .before .before .before .pre in
-    let args = c .before .before .before .before .before .before .args in
+    let pre = c .before .before .before .before .before .before .before .before .pre in
+    let args = c .before .before .before .before .before .before .before .before .args in
     childless (refuted (flag-forth (pre .0 .layout .looking) (args .d) (args .t) (pre .2) (c .before .has-flag .ensures)) (c .if1 .left))
 
 pub settle-spec : {M : Type 1} → statement M

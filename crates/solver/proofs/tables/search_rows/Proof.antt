@@ -8,10 +8,10 @@ looks-of-requires : tie.Need-looks-of-requires
 looks-of-requires c κs = search needs
 
 places-of-requires : tie.Need-places-of-requires
-places-of-requires c κs = few (c .before .before .before .before .before .before .pre .0)
+places-of-requires c κs = few (c .before .before .before .before .before .before .before .pre .0)
 
 look-rows-of-requires : tie.Need-look-rows-of-requires
-look-rows-of-requires c κs = few (c .before .before .before .before .before .before .before .pre .0)
+look-rows-of-requires c κs = few (c .before .before .before .before .before .before .before .before .pre .0)
 
 slice-aggregate-search : tie.Need-slice-aggregate-search
 slice-aggregate-search c = search needs
@@ -21,11 +21,11 @@ slice-aggregate-search-2 c = search needs
 
 search-requires : tie.Need-search-requires
 search-requires c κs =
-    let p = c .before .before .before .before .before .before .before .before .before .before .before .before .before .before .pre in
+    let p = c .before .before .before .before .before .before .before .before .before .before .before .before .before .before .before .pre in
     let l = c .before .before .before .before .before .before in (
-      given-for (p .0) (l .before .before .looks-of .ensures) (search needs) (l .before .places-of .ensures) (search needs) (l .look-rows-of .ensures) (p .1),
-      running-room (p .2),
-      p .2 .in-used,
+      given-for (p .0) (l .before .before .looks-of .ensures) (search needs) (l .before .places-of .ensures) (p .1) (search needs) (l .look-rows-of .ensures) (p .2),
+      running-room (p .3),
+      p .3 .in-used,
     )
 
 reply-of-requires : tie.Need-reply-of-requires

@@ -7,10 +7,10 @@ use Rattle.solver.proofs.tables.solve_rows.Statement.{statement}
 use Rattle.solver.proofs.tables.solve_rows.Tie as tie
 
 size-of-requires : tie.Need-size-of-requires
-size-of-requires c κs = few (c .before .before .before .before .before .pre)
+size-of-requires c κs = few (c .before .before .before .before .before .before .pre .0)
 
 mul-c : tie.Need-mul-c
-mul-c c = omega (arith, c .size-of .ensures, c .before .before .before .before .before .before .pre .accepted .room)
+mul-c c = omega (arith, c .size-of .ensures, c .before .before .before .before .before .before .before .pre .0 .accepted .room)
 
 has-room-requires : tie.Need-has-room-requires
 has-room-requires c κs = search needs
@@ -18,7 +18,8 @@ has-room-requires c κs = search needs
 search-rows-requires : tie.Need-search-rows-requires
 search-rows-requires c κs =
     let t = c .before .before .before .before in
-    (c .before .before .before .before .before .before .before .before .before .before .before .before .before .before .before .before .pre, counted _ _ (c .before .before .before .before .before .before .before .before .before .before .size-of .ensures), t .before .has-room .ensures .sound (t .if1 .taken))
+    let p = c .before .before .before .before .before .before .before .before .before .before .before .before .before .before .before .before .before .pre in
+    (p .0, p .1, counted _ _ (c .before .before .before .before .before .before .before .before .before .before .size-of .ensures), t .before .has-room .ensures .sound (t .if1 .taken))
 
 same-length : tie.Need-same-length
 same-length c = search needs

@@ -2,6 +2,7 @@ use borrow.Author.Needs.{needs}
 use native.Mathlib.Omega.{arith}
 use mathlib.Core.Path.{_≡_}
 use lib.ListN.{length, length-take}
+use Rattle.solver.proofs.Answering.{in-order}
 use Rattle.solver.proofs.Loading.{rows-few}
 use Rattle.solver.proofs.tables.solve_table.Statement.{statement}
 use Rattle.solver.proofs.tables.solve_table.Tie as tie
@@ -10,18 +11,23 @@ array-share-prefix-cells : tie.Need-array-share-prefix-cells
 array-share-prefix-cells c =
     let t = c .before .before .before .before .before .args .table in
     let l : length (t .cells) ≡ 48 = search needs in
-    let n = rows-few (c .before .before .before .before .before .pre) in
+    let n = rows-few (c .before .before .before .before .before .pre .0) in
     omega arith
 
 slice-aggregate-solve-rows : tie.Need-slice-aggregate-solve-rows
 slice-aggregate-solve-rows c =
     let t = c .before .before .before .before .before .before .args .table in
     let l : length (t .cells) ≡ 48 = search needs in
-    let n = rows-few (c .before .before .before .before .before .before .pre) in
+    let n = rows-few (c .before .before .before .before .before .before .pre .0) in
     simp length-take (omega arith)
 
+slice-aggregate-solve-rows-2 : tie.Need-slice-aggregate-solve-rows-2
+slice-aggregate-solve-rows-2 c = search needs
+
 solve-rows-requires : tie.Need-solve-rows-requires
-solve-rows-requires c κs = c .before .before .before .before .before .before .before .before .before .before .pre .ready
+solve-rows-requires c κs =
+    let t = c .before .before .before .before .before .before .before .before .before .before .before in
+    (t .pre .0 .ready, in-order (t .pre .0 .ready) (search needs) (t .pre .1))
 
 same-length : tie.Need-same-length
 same-length c = search needs
@@ -44,6 +50,7 @@ solve-table-spec =
     (tie.spec
     array-share-prefix-cells
     slice-aggregate-solve-rows
+    slice-aggregate-solve-rows-2
     solve-rows-requires
     same-length
     same-length-2

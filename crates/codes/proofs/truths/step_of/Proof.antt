@@ -16,8 +16,8 @@ use Rattle.codes.specs.Parts.{nameBy, flagBy}
 use Rattle.table.proofs.Decides.{always, never, negated, is-number}
 use Rattle.codes.proofs.Parts.{name-is, flag-decides, bit-decides}
 use Rattle.codes.proofs.Settled.{SaysIn, settled}
-use Rattle.codes.proofs.step_of.Statement.{statement}
-use Rattle.codes.proofs.step_of.Tie as tie
+use Rattle.codes.proofs.truths.step_of.Statement.{statement}
+use Rattle.codes.proofs.truths.step_of.Tie as tie
 
 module _ (c : tie.After-row-of) where
   abbrev here : tie.Start
