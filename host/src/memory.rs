@@ -14,11 +14,13 @@ pub struct Memory {
     shown: Option<Shown>,
 }
 
-/// Where the last call's tree begins, and how a code's name is read.
+/// Where the last call's tree begins, how a code's name is read, and C: what stands in the places
+/// from C on was left by earlier calls.
 #[derive(Debug, Clone, Copy)]
 struct Shown {
     top: u16,
     codes_of_a_name: usize,
+    codes: usize,
 }
 
 impl Memory {
@@ -65,14 +67,15 @@ impl Memory {
         let Shown {
             top,
             codes_of_a_name,
+            codes,
         } = self.shown?;
         Some(Tree {
             top,
             codes_of_a_name,
-            round: &self.round,
-            first: &self.first,
-            next: &self.next,
-            used: &self.used,
+            round: &self.round[..codes],
+            first: &self.first[..codes],
+            next: &self.next[..codes],
+            used: &self.used[..codes],
         })
     }
 
@@ -118,5 +121,6 @@ fn shown(text: &[u8], answer: Answer) -> Option<Shown> {
     Some(Shown {
         top,
         codes_of_a_name: table.codes_of_a_name() as usize,
+        codes: table.codes() as usize,
     })
 }

@@ -76,6 +76,17 @@ fn case_9_looks_back_at_the_parent() {
     assert_eq!((tree.name(133), tree.name(82)), (2, 1));
 }
 
+/// The codes 82 and 133 of case 9 are beyond those of case 5.
+#[test]
+fn case_5_after_case_9_shows_nothing_of_it() {
+    let mut memory = Memory::with_places(4096);
+    let rows = text("go 1 1; all 2 3; is 1; go 3 4; is 2");
+    let listed = listing(&rows, &mut memory);
+    assert_eq!(listed, "sat\t2\t133\n82\t1\t-\t-\n133\t2\t82\t-\n");
+    let listed = listing(&text("go 1 1; is 1"), &mut memory);
+    assert_eq!(listed, "sat\t2\t3\n40\t1\t-\t-\n3\t0\t40\t-\n");
+}
+
 #[test]
 fn case_10_prints_the_whole_listing() {
     let rows = text("all 1 2; go 1 3; go 2 3; yes");
