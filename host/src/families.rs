@@ -212,6 +212,33 @@ impl Draft {
     }
 }
 
+/// `n` rows of which each names the next one twice, above a `no`: 2^n ways lead from row 0 to it.
+/// m = 0, N = 1, unsat. The largest table has n = 47.
+pub fn shared(n: usize) -> Vec<u8> {
+    let mut draft = Draft::default();
+    for row in 1..=n {
+        draft.any(row, row);
+    }
+    draft.row("no".to_string());
+    draft.text()
+}
+
+/// `n` levels of an `all` and an `any` row that both name both rows of the next level; in the last
+/// one stand a look and a name. 2^n ways lead from row 0 to these two, and they are both true where
+/// row 0 is, one of them where row 1 is: the top is named 1, and row 1 is true at its first child.
+/// m = 1, N = 2, height 2. It takes one level or more; the largest table has n = 23.
+pub fn woven(n: usize) -> Vec<u8> {
+    let mut draft = Draft::default();
+    for level in 1..=n {
+        let next = [2 * level, 2 * level + 1];
+        draft.all(next[0], next[1]);
+        draft.any(next[0], next[1]);
+    }
+    draft.go(1, 1);
+    draft.is(1);
+    draft.text()
+}
+
 /// A node of name 1 is met on the way in a direction. For judging: one step of the way is one step of
 /// the truth.
 pub fn on_the_way(direction: usize) -> Vec<u8> {

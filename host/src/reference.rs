@@ -2,7 +2,8 @@
 //! possible. They are clear rather than fast. The tests compare them with the linked libraries,
 //! number by number and place by place.
 //!
-//! [`scan`] is a variant that searches the way the library does, for the benchmark.
+//! [`scan`] is a variant that searches the way the library does, for the benchmark; the tests compare
+//! it as well.
 
 mod codes;
 mod judge;

@@ -5,7 +5,7 @@ mod common;
 
 use common::{
     shown,
-    tables::{path, table, text_of, there_and_back, Size},
+    tables::{path, reordered, sharing, table, text_of, there_and_back, Size},
     Random,
 };
 use host::{reference::nodes::NodeList, solve, table::Row, Answer, Memory, Table, Tree};
@@ -157,17 +157,21 @@ fn check_shown_tree(table: &Table, tree: &Tree<'_>, height: usize, of: impl Fn()
 fn verdicts_and_least_heights() {
     let mut random = Random::start("verdicts_and_least_heights", 21);
     let (forest, mut memory, mut met) = (Forest::new(), Memory::largest(), Met::default());
-    for number in 0..3_000 {
+    for number in 0..4_000 {
         let names = random.pick(&[1, 1, 2, 2, 2, 2, 2, 3]);
         let size = Size {
             rows: random.between(2, 7),
             names,
             looks: random.between(1, 4),
         };
-        let rows = match number % 3 {
+        let rows = match number % 4 {
             0 => table(&mut random, size),
             1 => path(&mut random, names),
-            _ => there_and_back(&mut random, names),
+            2 => there_and_back(&mut random, names),
+            _ => {
+                let rows = sharing(&mut random, size);
+                reordered(&mut random, &rows, 0)
+            }
         };
         check(&rows, &forest, &mut memory, &mut met);
     }

@@ -4,11 +4,12 @@
 mod common;
 
 use common::{
-    both::{compare_at_some_lengths, places, Tally},
-    tables::{damage, near_loop, path, table, text_of, there_and_back, Size},
+    both::{compare, compare_at_some_lengths, places, Tally},
+    shown,
+    tables::{damage, near_loop, path, reordered, sharing, table, text_of, there_and_back, Size},
     Random,
 };
-use host::table::Row;
+use host::{table::Row, Table};
 
 fn small(random: &mut Random) -> Vec<Row> {
     let size = Size {
@@ -109,14 +110,13 @@ fn bytes_at_random() {
     assert!(tally.refused[1] > 20 && tally.refused[2] > 3_000);
 }
 
-/// Rows that are reached by very many ways through `any` and `all`. They are few levels deep,
-/// because truth by plain recursion takes twice as long with each level.
+/// Rows that are reached by very many ways through `any` and `all`: twice as many with each level.
 #[test]
 fn shared_rows() {
     let mut random = Random::start("shared_rows", 8);
     let mut tally = Tally::default();
     for _ in 0..200 {
-        let depth = random.between(2, 10);
+        let depth = random.between(2, Table::ROWS - 3);
         let mut rows: Vec<Row> = (1..=depth)
             .map(|next| match random.chance(1, 2) {
                 true => Row::Any(next, next),
@@ -132,4 +132,33 @@ fn shared_rows() {
     }
     println!("{tally:?}");
     assert!(tally.sat > 100);
+}
+
+/// Rows that are shared, written from the first to the last and in any other order. The verdict and
+/// the height or rounds don't hang on it as long as the question stays row 0.
+#[test]
+fn shared_rows_in_any_order() {
+    let mut random = Random::start("shared_rows_in_any_order", 10);
+    let mut tally = Tally::default();
+    for _ in 0..1_500 {
+        let size = Size {
+            rows: random.between(2, Table::ROWS),
+            names: random.between(1, 3),
+            looks: random.between(0, 4),
+        };
+        let rows = sharing(&mut random, size);
+        let mut verdict = |rows: &[Row]| {
+            let text = text_of(rows);
+            let numbers = compare(&text, [places(&text); 4], &mut tally);
+            (numbers.verdict, numbers.height)
+        };
+        let other = reordered(&mut random, &rows, 1);
+        let of = || format!("{}\n{}", shown(&text_of(&rows)), shown(&text_of(&other)));
+        assert_eq!(verdict(&rows), verdict(&other), "{}", of());
+        let another = reordered(&mut random, &rows, 0);
+        compare_at_some_lengths(&mut random, &text_of(&another), &mut tally);
+    }
+    println!("{tally:?}");
+    assert!(tally.sat > 1_000 && tally.unsat > 1_000 && tally.tall > 5);
+    assert_eq!(tally.sat + tally.unsat + tally.refused[8], tally.texts);
 }

@@ -1,18 +1,13 @@
 //! The examples and the page for planners: every answer that is shown there is the true one.
 
-use std::{
-    env, fs,
-    io::Write,
-    process::{Command, Stdio},
-};
+mod common;
 
+use std::{env, fs, process::Command};
+
+use common::programs::{run, ROOT, SHEETSAT};
 use host::{judge_on, judged_bytes, listing, reference, solve, Answer, Memory, Sheet, Slices};
 
-/// The folder in which the page and the folder `examples` stand.
-const ROOT: &str = concat!(env!("CARGO_MANIFEST_DIR"), "/..");
 const PAGE: &str = concat!(env!("CARGO_MANIFEST_DIR"), "/../docs/TABLES.md");
-/// The places that `sheetsat` has.
-const SHEETSAT: usize = 4096;
 
 fn file(path: &str) -> Vec<u8> {
     fs::read(format!("{ROOT}/{path}")).expect("an example can be read")
@@ -119,19 +114,12 @@ fn printed(command: &str, table: &[u8], sheet: &[u8]) -> String {
     let planner = std::path::Path::new(env!("CARGO_BIN_EXE_planner"));
     let folder = planner.parent().expect("a program is in a folder");
     let path = env::var("PATH").unwrap_or_default();
-    let mut child = Command::new("sh")
+    let mut shell = Command::new("sh");
+    shell
         .args(["-c", command])
         .current_dir(ROOT)
-        .env("PATH", format!("{}:{path}", folder.display()))
-        .stdin(Stdio::piped())
-        .stdout(Stdio::piped())
-        .spawn()
-        .expect("a shell starts");
-    let mut stdin = child.stdin.take().expect("a pipe");
-    // A command that names its table leaves its input unread.
-    drop(stdin.write_all(table));
-    drop(stdin);
-    let output = child.wait_with_output().expect("the command ends");
+        .env("PATH", format!("{}:{path}", folder.display()));
+    let output = run(&mut shell, table);
     String::from_utf8(output.stdout).expect("planner writes text")
 }
 

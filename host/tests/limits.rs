@@ -7,7 +7,7 @@ use common::{
     tables::{damage, table, text_of, Size},
     Random,
 };
-use host::{families, table::Row};
+use host::{families, table::Row, Numbers, Table};
 
 /// 46 to 50 rows, and a text that ends within a line.
 #[test]
@@ -97,11 +97,54 @@ fn large_tables() {
     assert!(tally.sat == 2 && tally.unsat == 3);
 }
 
+/// The library keeps what is asked of the first 16,384 codes' truths, and works out those beyond
+/// when they are asked for: as many codes, and more, looking at rows that hang on others.
+#[test]
+fn codes_beyond_what_is_kept() {
+    let mut tally = Tally::default();
+    for (text, c) in [
+        (families::ancestors(3), 16_384),
+        (families::descendants(4), 20_480),
+        (families::siblings(8), 24_576),
+    ] {
+        assert_eq!(places(&text), c);
+        compare(&text, [c; 4], &mut tally);
+    }
+    assert_eq!(tally.sat, 3);
+}
+
+/// As many levels as there are rows for. 2^47 ways lead from row 0 of the first table to its last
+/// row, 2^23 in the second one to its last two.
+#[test]
+fn rows_that_double_at_every_level() {
+    let mut tally = Tally::default();
+    let mut numbers = |text: &[u8], c: usize| {
+        let rows = Table::read(text).map(|table| table.rows().len());
+        assert_eq!((rows, places(text)), (Ok(Table::ROWS), c));
+        compare(text, [c; 4], &mut tally)
+    };
+    // Round 1 enters flags 0, 4 and 8, round 2 the other nine that are proper.
+    let unsat = Numbers {
+        verdict: Numbers::UNSAT,
+        height: 2,
+        ..Numbers::default()
+    };
+    assert_eq!(numbers(&families::shared(47), 16), unsat);
+    // Name 1 is worth 32, flag 1 2 and the look 1; the child is 40, with name 1 and flag 4.
+    let sat = Numbers {
+        verdict: Numbers::SAT,
+        height: 2,
+        top: 35,
+        ..Numbers::default()
+    };
+    assert_eq!(numbers(&families::woven(23), 64), sat);
+}
+
 /// The benchmark's families at sizes that are quick to solve.
 #[test]
 fn families_of_tables() {
     type Make = fn(usize) -> Vec<u8>;
-    let families: [(Make, usize); 8] = [
+    let families: [(Make, usize); 10] = [
         (families::chain, 6),
         (families::descendants, 2),
         (families::ancestors, 2),
@@ -110,6 +153,8 @@ fn families_of_tables() {
         (families::names, 15),
         (families::counter, 4),
         (families::endless, 7),
+        (families::shared, 47),
+        (families::woven, 23),
     ];
     let mut tally = Tally::default();
     for (make, largest) in families {
@@ -119,6 +164,7 @@ fn families_of_tables() {
         }
     }
     println!("{tally:?}");
-    assert_eq!((tally.sat, tally.unsat), (5 + 1 + 1 + 4 + 14 + 3, 3 + 6));
+    assert_eq!(tally.sat, 5 + 1 + 1 + 4 + 14 + 3 + 22);
+    assert_eq!(tally.unsat, 3 + 6 + 46);
     assert!(tally.tall > 10);
 }

@@ -112,6 +112,10 @@ fn lengths() {
         b"a 49th line of wrong form",
         b"no\nno\nno\nno\nno\nno\nno\nno\nno\nno\nno\nno\nno\nno\nno\nno\nno\nno\nno\nno\nno\nno\nno\nno\nno\nno\nno\nno\nno\nno\nno\nno\nno\nno\nno\nno\nno\nno\nno\nno\nno\nno\nno\nno\nno\nno\nno\nno\n?",
     );
+    one(
+        b"47 rows that double",
+        b"any\t1\t1\nany\t2\t2\nany\t3\t3\nany\t4\t4\nany\t5\t5\nany\t6\t6\nany\t7\t7\nany\t8\t8\nany\t9\t9\nany\t10\t10\nany\t11\t11\nany\t12\t12\nany\t13\t13\nany\t14\t14\nany\t15\t15\nany\t16\t16\nany\t17\t17\nany\t18\t18\nany\t19\t19\nany\t20\t20\nany\t21\t21\nany\t22\t22\nany\t23\t23\nany\t24\t24\nany\t25\t25\nany\t26\t26\nany\t27\t27\nany\t28\t28\nany\t29\t29\nany\t30\t30\nany\t31\t31\nany\t32\t32\nany\t33\t33\nany\t34\t34\nany\t35\t35\nany\t36\t36\nany\t37\t37\nany\t38\t38\nany\t39\t39\nany\t40\t40\nany\t41\t41\nany\t42\t42\nany\t43\t43\nany\t44\t44\nany\t45\t45\nany\t46\t46\nany\t47\t47\nno\n",
+    );
 }
 
 fn loops() {

@@ -26,7 +26,7 @@ struct Family {
     sizes: &'static [usize],
 }
 
-const FAMILIES: [Family; 8] = [
+const FAMILIES: [Family; 10] = [
     Family {
         name: "child chain",
         table: families::chain,
@@ -66,6 +66,16 @@ const FAMILIES: [Family; 8] = [
         name: "endless chain",
         table: families::endless,
         sizes: &[6, 8, 10, 12],
+    },
+    Family {
+        name: "shared rows",
+        table: families::shared,
+        sizes: &[11, 23, 47],
+    },
+    Family {
+        name: "woven rows",
+        table: families::woven,
+        sizes: &[5, 11, 23],
     },
 ];
 
@@ -129,9 +139,11 @@ fn verdict(numbers: Numbers) -> String {
     }
 }
 
-/// The p for which the time grew as the size to the power of p, from the size before.
+/// The p for which the time grew as the size to the power of p, from the size before if that was
+/// smaller.
 fn growth(before: Option<(f64, f64)>, (size, time): (f64, f64)) -> String {
-    before.map_or("-".to_string(), |(size_before, time_before)| {
+    let smaller = before.filter(|(size_before, _)| *size_before < size);
+    smaller.map_or("-".to_string(), |(size_before, time_before)| {
         let p = (time / time_before).ln() / (size / size_before).ln();
         format!("^{p:.2}")
     })

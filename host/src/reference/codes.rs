@@ -93,8 +93,9 @@ pub fn parts(code: usize, m: usize) -> (usize, usize, usize) {
     (code >> m >> 4, code >> m & 15, code & ((1 << m) - 1))
 }
 
-/// The truths of the rows in one code, worked out as they are asked for. Each is kept, because
-/// a row may be reached through `any` and `all` by very many ways.
+/// The truths of the rows in one code, worked out as they are asked for, in no order fixed
+/// beforehand. Each is kept, because a row may be reached through `any` and `all` by very many
+/// ways; so the recursion takes each row once.
 struct Truth<'a> {
     table: &'a Table,
     looks: &'a [Look],

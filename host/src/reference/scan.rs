@@ -1,9 +1,8 @@
 //! The reference doing the library's own scan: in each round, for each proper code that isn't
 //! entered and each flagged direction, all codes from 0 on are tried until one of an earlier round
-//! is taken. Truth is worked out by recursion through `any` and `all` each time it is asked for.
-//!
-//! Such a recursion takes a row once for each way to it, and the ways may double with each row:
-//! on a table made for that it doesn't end in reasonable time.
+//! is taken. The truths of all rows in a code are worked out once for each code, before the first
+//! round: in one pass, in an order of the rows that is fixed beforehand. So nothing is followed by
+//! recursion, and a row costs the same however many rows name it.
 //!
 //! This is what the benchmark measures the library against: the same work in plain Rust.
 
@@ -12,7 +11,11 @@ use crate::{
     Answer, Numbers, Slices, NONE,
 };
 
-use super::{accept, clear, codes::converse, mark_used};
+use super::{
+    accept, clear,
+    codes::{converse, parts},
+    mark_used,
+};
 
 /// Solves `text` on four borrowed slices, as [`solve_on`](crate::solve_on) does.
 pub fn solve_on(text: &[u8], lent: Slices<'_>) -> Numbers {
@@ -24,26 +27,21 @@ pub fn solve_on(text: &[u8], lent: Slices<'_>) -> Numbers {
 }
 
 /// What the scan reads of a table.
-struct Scan<'a> {
-    rows: &'a [Row],
+struct Scan {
     looks: Vec<Look>,
-    /// For each row the number of its bit, where it is a `go` row.
-    bit_of: Vec<usize>,
     codes: usize,
+    /// The truths of all rows in each code.
+    truths: Vec<u64>,
 }
 
-impl<'a> Scan<'a> {
-    fn new(table: &'a Table) -> Scan<'a> {
-        let looks = table.looks();
-        let mut bit_of = vec![0; table.rows().len()];
-        for (bit, look) in looks.iter().enumerate() {
-            bit_of[look.row] = bit;
-        }
+impl Scan {
+    fn new(table: &Table) -> Scan {
+        let codes = table.codes() as usize;
+        let pass = Pass::new(table);
         Scan {
-            rows: table.rows(),
-            looks,
-            bit_of,
-            codes: table.codes() as usize,
+            looks: table.looks(),
+            codes,
+            truths: (0..codes).map(|code| pass.truths(code)).collect(),
         }
     }
 
@@ -127,23 +125,83 @@ impl<'a> Scan<'a> {
     }
 
     fn truth(&self, row: usize, code: usize) -> bool {
-        match self.rows[row] {
-            Row::Yes => true,
-            Row::No => false,
-            Row::Is(name) => self.name(code) == name,
-            Row::IsNot(name) => self.name(code) != name,
-            Row::Any(i, j) => self.truth(i, code) || self.truth(j, code),
-            Row::All(i, j) => self.truth(i, code) && self.truth(j, code),
-            Row::Go(..) => has_bit(code, self.bit_of[row]),
-            Row::Stop(direction) => !self.has(code, direction),
-        }
-    }
-
-    fn name(&self, code: usize) -> usize {
-        code >> self.looks.len() >> 4
+        is_true(self.truths[code], row)
     }
 }
 
-fn has_bit(code: usize, bit: usize) -> bool {
-    code >> bit & 1 == 1
+/// How the truths of a table's rows in a code are worked out.
+struct Pass<'a> {
+    rows: &'a [Row],
+    order: Vec<usize>,
+    /// For each row the number of its bit, where it is a `go` row.
+    bit_of: Vec<usize>,
+    looks: usize,
+}
+
+impl<'a> Pass<'a> {
+    fn new(table: &'a Table) -> Pass<'a> {
+        let looks = table.looks();
+        let mut bit_of = vec![0; table.rows().len()];
+        for (bit, look) in looks.iter().enumerate() {
+            bit_of[look.row] = bit;
+        }
+        Pass {
+            rows: table.rows(),
+            order: order(table.rows()),
+            bit_of,
+            looks: looks.len(),
+        }
+    }
+
+    /// The truths of all rows in a code. When a row's turn comes, those of the rows that it names
+    /// are there.
+    fn truths(&self, code: usize) -> u64 {
+        let (name, flags, bits) = parts(code, self.looks);
+        let mut truths = 0;
+        for row in &self.order {
+            let truth = match self.rows[*row] {
+                Row::Yes => true,
+                Row::No => false,
+                Row::Is(is) => name == is,
+                Row::IsNot(is) => name != is,
+                Row::Any(i, j) => is_true(truths, i) || is_true(truths, j),
+                Row::All(i, j) => is_true(truths, i) && is_true(truths, j),
+                Row::Go(..) => has_bit(bits, self.bit_of[*row]),
+                Row::Stop(direction) => !has_bit(flags, direction - 1),
+            };
+            truths |= u64::from(truth) << row;
+        }
+        truths
+    }
+}
+
+/// All rows, each behind those that it names by `any` or `all`. The table has no loop, so there is
+/// always a next one. Most rows name later ones, so it is looked for from the last row backwards.
+fn order(rows: &[Row]) -> Vec<usize> {
+    let mut order = Vec::new();
+    let mut placed = vec![false; rows.len()];
+    while order.len() < rows.len() {
+        for row in (0..rows.len()).rev() {
+            let ready = match rows[row] {
+                Row::Any(i, j) | Row::All(i, j) => placed[i] && placed[j],
+                _ => true,
+            };
+            if ready && !placed[row] {
+                placed[row] = true;
+                order.push(row);
+            }
+        }
+    }
+    order
+}
+
+// The truths of a code are one word, that of row i its bit i.
+const _: () = assert!(Table::ROWS <= u64::BITS as usize);
+
+fn is_true(truths: u64, row: usize) -> bool {
+    truths >> row & 1 == 1
+}
+
+fn has_bit(bits: usize, bit: usize) -> bool {
+    bits >> bit & 1 == 1
 }

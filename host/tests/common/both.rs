@@ -1,6 +1,9 @@
-//! A text solved by the library and by the reference on equal slices, and the two compared.
+//! A text solved by the library and by both references on equal slices, and compared.
 
-use host::{reference, solve_on, Numbers, Slices, Table};
+use host::{
+    reference::{self, scan},
+    solve_on, Numbers, Slices, Table,
+};
 
 use super::{shown, Random};
 
@@ -95,18 +98,29 @@ fn lengths(random: &mut Random, c: usize) -> [usize; 4] {
     lengths
 }
 
-/// Solves a text both ways on equal slices, and compares.
-pub fn compare(text: &[u8], lengths: [usize; 4], tally: &mut Tally) {
+type Solver = fn(&[u8], Slices<'_>) -> Numbers;
+
+/// The reference, and the one that does the library's own scan.
+const REFERENCES: [(&str, Solver); 2] =
+    [("reference", reference::solve_on), ("scan", scan::solve_on)];
+
+/// Solves a text by the library and by both references on equal slices, compares, and gives the
+/// numbers.
+pub fn compare(text: &[u8], lengths: [usize; 4], tally: &mut Tally) -> Numbers {
     let before = Lent::patterned(lengths);
-    let (mut ours, mut theirs) = (before.clone(), before.clone());
+    let mut ours = before.clone();
     let numbers = solve_on(text, ours.slices());
-    let expected = reference::solve_on(text, theirs.slices());
     let of = || format!("lengths {lengths:?}, text:\n{}", shown(text));
-    assert_eq!(numbers, expected, "numbers differ; {}", of());
-    assert!(ours.round == theirs.round, "rounds differ; {}", of());
-    assert!(ours.first == theirs.first, "firsts differ; {}", of());
-    assert!(ours.next == theirs.next, "nexts differ; {}", of());
-    assert!(ours.used == theirs.used, "useds differ; {}", of());
+    for (name, solver) in REFERENCES {
+        let mut theirs = before.clone();
+        let expected = solver(text, theirs.slices());
+        let differ = |what: &str| format!("{name}: {what} differ; {}", of());
+        assert_eq!(numbers, expected, "{}", differ("numbers"));
+        assert!(ours.round == theirs.round, "{}", differ("rounds"));
+        assert!(ours.first == theirs.first, "{}", differ("firsts"));
+        assert!(ours.next == theirs.next, "{}", differ("nexts"));
+        assert!(ours.used == theirs.used, "{}", differ("useds"));
+    }
     let used_places = if numbers.verdict == Numbers::REFUSED {
         0
     } else {
@@ -118,6 +132,7 @@ pub fn compare(text: &[u8], lengths: [usize; 4], tally: &mut Tally) {
         of()
     );
     tally.count(numbers);
+    numbers
 }
 
 pub fn compare_at_some_lengths(random: &mut Random, text: &[u8], tally: &mut Tally) {

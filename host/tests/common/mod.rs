@@ -1,10 +1,12 @@
-//! What several tests share: random numbers, tables and sheets made from them, and pages of edges.
+//! What several tests share: random numbers, tables and sheets made from them, pages of edges, and
+//! programs that are run.
 
 #![allow(dead_code)] // each test file uses its own part of this one
 
 pub mod both;
 pub mod judged;
 pub mod marked;
+pub mod programs;
 pub mod sheets;
 pub mod tables;
 

@@ -126,30 +126,91 @@ pub fn path(random: &mut Random, names: usize) -> Vec<Row> {
     rows
 }
 
-/// A table without a loop in which most rows look, too many for the solver if it is large. Either
-/// all references point forwards; or the rows before a place look down, those from it on look up
-/// and never back before it.
+/// Where the rows of a table look that has no loop, if its `any` and `all` rows name later ones.
+/// Either all references point forwards; or the rows before a place look down, those from it on
+/// look up and never back before it.
+struct Looking {
+    rows: usize,
+    forwards: bool,
+    turn: usize,
+}
+
+impl Looking {
+    fn some(random: &mut Random, rows: usize) -> Looking {
+        Looking {
+            rows,
+            forwards: random.chance(1, 3),
+            turn: random.below(rows + 1),
+        }
+    }
+
+    /// A look for row `at`, unless there is no row that it may look at.
+    fn look(&self, random: &mut Random, at: usize) -> Option<Row> {
+        let (directions, least) = match (self.forwards, at < self.turn) {
+            (true, _) => (&[1, 2, 3, 4][..], at + 1),
+            (_, true) => (&[1, 2][..], 0),
+            (_, false) => (&[3, 4][..], self.turn),
+        };
+        let last = self.rows - 1;
+        (least <= last).then(|| Row::Go(random.pick(directions), random.between(least, last)))
+    }
+}
+
+/// A table without a loop in which most rows look, too many for the solver if it is large.
 pub fn looking(random: &mut Random, rows: usize, names: usize) -> Vec<Row> {
-    let forwards = random.chance(1, 3);
-    let turn = random.below(rows + 1);
+    let looking = Looking::some(random, rows);
     let mut table = Vec::new();
     for at in 0..rows {
         let onwards = |random: &mut Random| random.between(at + 1, rows - 1);
-        let (directions, least) = match (forwards, at < turn) {
-            (true, _) => (&[1, 2, 3, 4][..], at + 1),
-            (_, true) => (&[1, 2][..], 0),
-            (_, false) => (&[3, 4][..], turn),
-        };
-        table.push(match random.below(10) {
-            0..=5 if least < rows => {
-                Row::Go(random.pick(directions), random.between(least, rows - 1))
-            }
-            6 if at + 1 < rows => Row::All(onwards(random), onwards(random)),
-            7..=8 if at + 1 < rows => Row::Any(onwards(random), onwards(random)),
+        let look = looking.look(random, at);
+        table.push(match (random.below(10), look) {
+            (0..=5, Some(look)) => look,
+            (6, _) if at + 1 < rows => Row::All(onwards(random), onwards(random)),
+            (7..=8, _) if at + 1 < rows => Row::Any(onwards(random), onwards(random)),
             _ => leaf(random, names),
         });
     }
     table
+}
+
+/// A table without a loop in which most rows are `any` and `all` rows that name rows among the next
+/// three: very many ways lead through them.
+pub fn sharing(random: &mut Random, size: Size) -> Vec<Row> {
+    let looking = Looking::some(random, size.rows);
+    let last = size.rows - 1;
+    let mut looks = size.looks;
+    let mut table = Vec::new();
+    for at in 0..size.rows {
+        let near = |random: &mut Random| random.between(at + 1, last.min(at + 3));
+        let look = looking.look(random, at).filter(|_| looks > 0);
+        let row = match (random.below(10), look) {
+            (0..=3, _) if at < last => Row::Any(near(random), near(random)),
+            (4..=7, _) if at < last => Row::All(near(random), near(random)),
+            (8, Some(look)) => look,
+            _ => leaf(random, size.names),
+        };
+        looks -= usize::from(matches!(row, Row::Go(..)));
+        table.push(row);
+    }
+    table
+}
+
+/// The same rows in another order, all but the first `kept`; references follow.
+pub fn reordered(random: &mut Random, rows: &[Row], kept: usize) -> Vec<Row> {
+    let mut place: Vec<usize> = (0..rows.len()).collect();
+    for at in kept..rows.len() {
+        place.swap(at, random.between(at, rows.len() - 1));
+    }
+    let mut moved = rows.to_vec();
+    for (at, row) in rows.iter().enumerate() {
+        moved[place[at]] = match *row {
+            Row::Any(i, j) => Row::Any(place[i], place[j]),
+            Row::All(i, j) => Row::All(place[i], place[j]),
+            Row::Go(direction, i) => Row::Go(direction, place[i]),
+            other => other,
+        };
+    }
+    moved
 }
 
 /// A table of any of several makes; few of them have a loop.
