@@ -1,3 +1,4 @@
+pub mod Sides
 pub mod Tests
 pub mod Solution
 pub mod Loops

@@ -14,6 +14,7 @@ use Rattle.meaning.specs.Loop.{LoopFree}
 use Rattle.meaning.specs.Marked.{Within, Smallest}
 use Rattle.meaning.specs.Outcome.{Bounded}
 use Rattle.meaning.specs.Table.{Side, first, next, down, Table, names, looks, size, InRange}
+use Rattle.meaning.proofs.Sides.{sides}
 use Rattle.meaning.proofs.Codes.Names.{flag_dec}
 use Rattle.meaning.proofs.Rounds.Smallest.{smallest_unique, smallest_from, smallest_within, within_smallest, smallest_code}
 use Rattle.meaning.proofs.Search.Levels.{within_dec}
@@ -90,7 +91,7 @@ module _ {rows : Table} (range : InRange rows) (free : LoopFree rows) where
       both (inr z) b = z
       both (inl a) (inr z) = z
       both (inl a) (inl b) =
-          let v : Within rows (suc k) c = (w.0, w.1, λ s. elim s [ first ↦ a | next ↦ b ]) in
+          let v : Within rows (suc k) c = (w.0, w.1, sides _ a b) in
           absurd (omega (arith, within_smallest (suc k) x v))
 
   each_height : (k : ℕ) {c : ℕ} → Smallest rows c k → (j : ℕ) → 0 < j → j ≤ k → (u : ℕ) × Smallest rows u j

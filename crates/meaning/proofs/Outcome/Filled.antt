@@ -10,6 +10,7 @@ use Rattle.meaning.specs.Loop.{LoopFree}
 use Rattle.meaning.specs.Marked.{Smallest, Within}
 use Rattle.meaning.specs.Outcome.{Slices, absent, RoundIs, entered, not_entered, NeighbourIs, left_out, Met, UsedIs, met, not_met, Searched}
 use Rattle.meaning.specs.Table.{Side, first, next, Table, InRange}
+use Rattle.meaning.proofs.Sides.{sides}
 use Rattle.meaning.proofs.Outcome.Met.{used_for}
 use Rattle.meaning.proofs.Outcome.Neighbours.{neighbour_is}
 use Rattle.meaning.proofs.Outcome.Unique.{carry}
@@ -57,7 +58,7 @@ module _ {rows : Table} (range : InRange rows) (free : LoopFree rows) (last : �
       let on : (s : Side) → (f : List ℕ) × ((c : ℕ) → c < codes rows → NeighbourIs rows r.0 s c (get_or f c 0)) × (length f ≡ codes rows) = λ s. choose (λ c v. NeighbourIs rows r.0 s c v) (codes rows) (neighbour_for r.0 r.1 s) in
       let f = on first in
       let n = on next in
-      (r.0, f.0, n.0, λ u. record { rounds = r.1; neighbours = λ s. elim s [ first ↦ f.1 | next ↦ n.1 ] })
+      (r.0, f.0, n.0, λ u. record { rounds = r.1; neighbours = sides _ f.1 n.1 })
 
   -- and the fourth, with what is met from the top
   pub used : (top : ℕ) → top < codes rows → (x : Slices) × Searched rows last x × ((c : ℕ) → c < codes rows → UsedIs x top c (get_or x.used c 0))

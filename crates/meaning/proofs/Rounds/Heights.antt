@@ -7,6 +7,7 @@ use Rattle.meaning.specs.Code.{name_in, HasFlag, Takes}
 use Rattle.meaning.specs.Marked.{Fits, Marked, no_mark, mark, Within}
 use Rattle.meaning.specs.Table.{Side, first, next, down, Table}
 use Rattle.meaning.specs.Tree.{Tree, nothing, node, height}
+use Rattle.meaning.proofs.Sides.{sides}
 use Rattle.meaning.proofs.Codes.Names.{counted_lt, counted_self, name_lt, code_lt, flag_dec}
 
 -- some marked tree of height at most k has the code c at its top
@@ -25,10 +26,7 @@ module _ (rows : Table) where
   enter (suc k) c (mark {n = n'} {x = x} {y = y} n p f h g l) le = (
     p,
     code_lt rows c (rw n (counted_lt rows n')),
-    λ s. elim s [
-      | first ↦ kid_in first k c x f h (λ u m. enter k u m (omega arith))
-      | next ↦ kid_in next k c y g l (λ u m. enter k u m (omega arith))
-    ],
+    sides _ (kid_in first k c x f h (λ u m. enter k u m (omega arith))) (kid_in next k c y g l (λ u m. enter k u m (omega arith))),
   )
 
   -- a child, or none

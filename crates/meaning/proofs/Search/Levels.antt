@@ -9,6 +9,7 @@ use Rattle.meaning.specs.Code.{codes, HasFlag, Proper, Takes}
 use Rattle.meaning.specs.Loop.{LoopFree}
 use Rattle.meaning.specs.Marked.{Within}
 use Rattle.meaning.specs.Table.{Side, first, next, down, Table, InRange}
+use Rattle.meaning.proofs.Sides.{sides}
 use Rattle.meaning.proofs.Search.Agrees.{proper_iff, takes_iff}
 use Rattle.meaning.proofs.Search.Lists.{exists_to, exists_from, Asc, asc_nil, keep_to, keep_new, keep_asc, mem_dec}
 use Rattle.meaning.proofs.Search.Model.{flag_b, takes_b, proper_b, exists, kid_b, ok_b, level}
@@ -39,7 +40,7 @@ module _ {rows : Table} (range : InRange rows) (free : LoopFree rows) where
       let f = guard_iff (proper_b rows (m rows) c) (elim A [ true ↦ B | false ↦ false ]) in
       let g = guard_iff A B in (
         λ h. let x = f.0 h in let y = g.0 x.1 in
-            ((proper_iff rows c).0 x.0, λ s. elim s [ first ↦ (kid_iff first k c l ih).0 y.0 | next ↦ (kid_iff next k c l ih).0 y.1 ]),
+            ((proper_iff rows c).0 x.0, sides _ ((kid_iff first k c l ih).0 y.0) ((kid_iff next k c l ih).0 y.1)),
         λ h. f.1 ((proper_iff rows c).1 h.0, g.1 ((kid_iff first k c l ih).1 (h.1 first), (kid_iff next k c l ih).1 (h.1 next))),
       )
 
