@@ -1,3 +1,5 @@
+#![tactic(auto)]
+
 ghost use Rattle.std.specs.Prelude.{◌≡◌, [], ◌<◌};
 ghost use Rattle.table.specs.Rows.{row_of, row_by, rows_of, row_in, Extended};
 
@@ -15,6 +17,7 @@ pub enum Row {
 }
 
 // A row takes one number, so that a table is lent to the search as one slice and is never copied there.
+#[tactic(auto, unfolding(crate::specs::Rows::row_of))]
 pub fn cell_of(row: Row) -> u32
     ensures { row_of result ≡ row }
 {
@@ -30,6 +33,7 @@ pub fn cell_of(row: Row) -> u32
     }
 }
 
+#[tactic(auto, using(crate::proofs::Cells::packed_row))]
 fn packed(kind: u32, a: u8, b: u8) -> u32
     requires { kind < 8 }
     ensures { row_of result ≡ row_by kind a b }
@@ -37,6 +41,7 @@ fn packed(kind: u32, a: u8, b: u8) -> u32
     kind * 65536 + wide(a) * 256 + wide(b)
 }
 
+#[tactic(auto, unfolding(crate::specs::Rows::row_of))]
 pub fn row_of(cell: u32) -> Row
     ensures { result ≡ row_of cell }
 {
