@@ -1,3 +1,5 @@
+#![tactic(auto)]
+
 ghost use Rattle.std.specs.Prelude.{◌≡◌, suc, ◌<◌, ◌≤◌, max, length};
 ghost use Rattle.meaning.specs.Table.{row_limit, names, looks, size, mentioned, look};
 ghost use Rattle.table.specs.Rows.{row_of, meant, table_in};
@@ -6,6 +8,7 @@ ghost use Rattle.counts.specs.Counts.{Places, LookRows};
 use table::{Row, Table};
 
 // N of 01's section 4: one more than the largest name mentioned, in used rows and in others, and 1 if there is none.
+#[tactic(auto, using(crate::proofs::Laws::names_next))]
 pub fn names_of(cells: &[u32]) -> usize
     ensures { (result ≡ names (table_in cells.now)) × (result ≤ 256) }
 {
@@ -40,6 +43,7 @@ fn after(n: u8) -> usize
 }
 
 // m of 01's section 4: how many `go` rows there are.
+#[tactic(auto, using(crate::proofs::Laws::looks_next))]
 pub fn looks_of(cells: &[u32]) -> usize
     ensures { (result ≡ looks (table_in cells.now)) × (result ≤ length cells.now) }
 {
@@ -69,6 +73,7 @@ pub fn size_of(cells: &[u32]) -> usize
 }
 
 // The bit place of each row, if it is a `go` row: how many `go` rows stand before it.
+#[tactic(auto, using(crate::proofs::Laws::looks_next, crate::proofs::Grown::places_next))]
 pub fn places_of(cells: &[u32]) -> [u8; Table::ROWS]
     requires { length cells.now ≤ row_limit }
     ensures { Places (table_in cells.now) result }
@@ -83,6 +88,7 @@ pub fn places_of(cells: &[u32]) -> [u8; Table::ROWS]
 }
 
 // The rows of the bits: where each `go` row stands, in order.
+#[tactic(auto, using(crate::proofs::Laws::looks_next, crate::proofs::Grown::found_next, crate::proofs::Grown::found_not))]
 pub fn look_rows_of(cells: &[u32]) -> [u8; Table::ROWS]
     requires { length cells.now ≤ row_limit }
     ensures { LookRows (table_in cells.now) result }

@@ -1,0 +1,9 @@
+-- The list so far is that of the rows passed.
+use Rattle.std.proofs.Common.{◌≡◌, ◌≤◌, length, take}
+use Rattle.meaning.specs.Table.{looks}
+use Rattle.table.specs.Rows.{table_in}
+use Rattle.counts.specs.Counts.{LookRows}
+use Rattle.counts.proofs.look_rows_of.Given as goal
+
+abbrev pub invariant-loop-i : goal.invariant-loop-i
+invariant-loop-i l = (l.found ≡ looks (take l.i (table_in l.cells))) × (l.found ≤ l.i) × (length l.rows ≡ 48) × LookRows (take l.i (table_in l.cells)) l.rows
