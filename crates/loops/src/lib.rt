@@ -1,4 +1,6 @@
-// Refusals 5, 6 and 7: whether a table's rows are there, loop_free and few enough to be searched.
+#![tactic(auto)]
+
+// Refusals 5, 6 and 7: whether a table's rows are there, loop-free and few enough to be searched.
 mod closure;
 mod missing;
 mod order;
