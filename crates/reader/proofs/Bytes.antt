@@ -10,12 +10,9 @@ use lib.Dec.{eqb}
 use lib.ListN.{length, drop, get_or, drop_of_length-le, length-drop, length-append}
 use lib.Seq.{drop-cons}
 use borrow.Author.Tests.{eq-eqb, ne_eqb, eqb-true}
-use Rattle.table.specs.declared.Row.{Row}
 use Rattle.reader.specs.declared.parts.Part.{Part}
 use Rattle.reader.specs.declared.parts.Part.TheVariants.{Is, Wrong}
-use Rattle.reader.specs.declared.lines.Line.{Line}
-use Rattle.reader.specs.declared.lines.Line.TheVariants as L
-use Rattle.reader.specs.Parts.{Taken, taken, nothing, Gives, GivesRow, starts_with}
+use Rattle.reader.specs.Parts.{Taken, taken, nothing, Gives, starts_with}
 
 -- the text has a byte there, or none
 pub front : (s : List ℕ) (at : ℕ) → at < length s → drop at s ≡ get_or s at 0 ∷ drop (at + 1) s
@@ -72,9 +69,3 @@ gives_is text {t = t} g e = subst (λ (q : Part). Gives text q t) e g
 
 pub gives_wrong : (text : List ℕ) {p : Part} {t : Taken ℕ} → Gives text p t → p ≡ Wrong → t ≡ nothing
 gives_wrong text {t = t} g e = subst (λ (q : Part). Gives text q t) e g
-
-pub row_is : (text : List ℕ) {l : Line} {t : Taken Row} {r : Row} {next : ℕ} → GivesRow text l t → l ≡ L.Row r next → (t ≡ taken r (drop next text)) × (next ≤ length text)
-row_is text {t = t} g e = subst (λ (k : Line). GivesRow text k t) e g
-
-pub row_wrong : (text : List ℕ) {l : Line} {t : Taken Row} → GivesRow text l t → l ≡ L.Wrong → t ≡ nothing
-row_wrong text {t = t} g e = subst (λ (k : Line). GivesRow text k t) e g

@@ -1,3 +1,5 @@
+#![tactic(auto)]
+
 // A text turned into a table, or refused with 1 to 4.
 ghost use Rattle.std.specs.Prelude.{◌≡◌, []};
 ghost use Rattle.table.specs.Rows.{rows_of};

@@ -20,7 +20,7 @@ pub enum Line {
 pub fn read_row(text: &[u8], at: usize) -> Line
     requires { at ≤ length text.now }
     ensures gives_row { GivesRow text.now result (line_in (drop at text.now)) }
-    ensures* limit { do ⌜ (← (⟦Table::LINE⟧).entry) ≡ line_limit ⌝ }
+    ensures limit { Table.LINE ≡ line_limit }
 {
     let Part::Is(kind, a) = read_word(text, at) else {
         return Line::Wrong;
@@ -42,6 +42,7 @@ pub fn read_row(text: &[u8], at: usize) -> Line
 }
 
 // The kind, by the number that a table has for it. `isnot` is tried before `is`, its own beginning.
+#[tactic(auto, unfolding(crate::specs::Parts::first_of))]
 fn read_word(text: &[u8], at: usize) -> Part
     requires { at ≤ length text.now }
     ensures { Gives text.now result (word_in (drop at text.now)) }

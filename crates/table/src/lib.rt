@@ -4,7 +4,7 @@ ghost use Rattle.std.specs.Prelude.{◌≡◌, [], ◌<◌};
 ghost use Rattle.table.specs.Rows.{row_of, row_by, rows_of, row_in, Extended};
 
 // A row as it is written: numbers are kept as they stand in the text, also a name or a direction that does not exist.
-#[derive(Drop)]
+#[derive(Clone, Copy, Drop)]
 pub enum Row {
     Yes,
     No,
