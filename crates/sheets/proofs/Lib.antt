@@ -1,5 +1,4 @@
 pub mod Cells
-pub mod Given
 pub mod Numerals
 pub mod Written
 pub mod Stages

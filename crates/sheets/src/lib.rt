@@ -1,3 +1,5 @@
+#![tactic(auto)]
+
 // A sheet as text: its lines, refusals 9 and 10, and the tree that it is.
 mod lines;
 mod links;
@@ -41,6 +43,7 @@ fn field_of(link: Link) -> u32
     }
 }
 
+#[tactic(auto, unfolding(crate::specs::Lines::line_of))]
 pub fn line_of(cell: u32) -> Line
     ensures { result ≡ line_of cell }
 {
@@ -82,6 +85,7 @@ impl Sheet {
     }
 
     // The sheet with one line more, or as it is where it is full.
+    #[tactic(auto, using(crate::proofs::Cells::line_more))]
     pub(crate) fn with_line(self, line: Line) -> Sheet
         requires { Right line }
         ensures { Extended self line result }

@@ -7,6 +7,7 @@ use mathlib.Core.List.{List}
 use mathlib.Core.Logic.Dec
 use mathlib.Core.Path.{◌≡◌, refl, sym, ◌∙◌, ap}
 use lib.ListN.{length}
+use Rattle.meaning.proofs.Sides.{sides}
 use Rattle.meaning.specs.Table.{Side, first, next}
 use Rattle.meaning.proofs.Outcome.Met.{some_dec, side_dec}
 use Rattle.sheets.specs.Lines.{link, line_at}
@@ -53,7 +54,7 @@ module _ {lines : List Line} (free : FaultFree lines) where
   side_one {i} {k} {s} {r} a b = at s r a b
     where
       twice : Names lines i first k → Names lines i next k → ⊥
-      twice f n = free k (named_twice (omega (arith, names_greater f)) (named_there f) {k = i} (λ s. elim s [ first ↦ f | next ↦ n ]))
+      twice f n = free k (named_twice (omega (arith, names_greater f)) (named_there f) {k = i} (sides _ f n))
 
       at : (s r : Side) → Names lines i s k → Names lines i r k → s ≡ r
       at first first a b = refl
