@@ -24,7 +24,7 @@ numbered sized rows (Missing i) = refused 5 i
 numbered sized rows (Looping i) = refused 6 i
 numbered sized rows Large = cond sized (refused 7 0) (rows_read rows)
 
--- 1 to 4 are met reading downwards; then 5 over all rows, then 6, then 7. What passes is accepted: `rows-read` of its rows.
+-- 1 to 4 are met reading downwards; then 5 over all rows, then 6, then 7. What passes is accepted: `rows_read` of its rows.
 pub data Takes (sized : Bool) (text : List ℕ) (a : Reading) : Type 0 where
   unread : {n p : ℕ} → Reads text (refused n p) → a ≡ refused n p → Takes sized text a
   judged : {rows : List Row} {c : Checked} → Reads text (rows_read rows) → Judged (table rows) c → a ≡ numbered sized rows c → Takes sized text a

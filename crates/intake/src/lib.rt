@@ -1,3 +1,5 @@
+#![tactic(auto)]
+
 // Refusals 1 to 7, or 1 to 6 for whoever does not search: from a text to a table.
 ghost use Rattle.counts.specs.Order.{Ordered};
 ghost use Rattle.intake.specs.Loading.{Accepts, Refuses, Answered, Judges};

@@ -64,7 +64,7 @@ pub fn row_by(kind: u32, a: u8, b: u8) -> Row
     }
 }
 
-#[derive(Drop)]
+#[derive(Clone, Copy, Drop)]
 pub struct Table {
     pub cells: [u32; Table::ROWS],
     pub rows: usize,
