@@ -28,6 +28,16 @@ no_goal (All i j) e = refl
 no_goal (Go d i) e = absurd (omega arith)
 no_goal (Stop d) e = refl
 
+pub no_go : (r : Row) → ((d i : ℕ) → r ≡ Go d i → ⊥) → look (meant r) ≡ 0
+no_go Yes n = refl
+no_go No n = refl
+no_go (Is k) n = refl
+no_go (Isnot k) n = refl
+no_go (Any i j) n = refl
+no_go (All i j) n = refl
+no_go (Go d i) n = absurd (n d i refl)
+no_go (Stop d) n = refl
+
 module _ {cells found : List ℕ} {m : ℕ} (l : Looking cells found m) (j : ℕ) (h : j < m) where
   pub look_at : LookRow (table_in cells) j (get_or found j 0)
   look_at = let e = l.width.is_m in l.found.row j (omega arith)

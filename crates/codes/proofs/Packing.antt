@@ -59,9 +59,3 @@ module _ (test : ℕ → Bool) (n : ℕ) where
       let e : n - (j - 1) ≡ suc (n - j) = omega arith in
       let f : suc (j - 1) ≡ j = omega arith in
       rw (e, f, p, q)
-
-  pub packed_over : (j s : ℕ) → j ≤ 0 → s ≡ packed test (n - j) j → s ≡ packed test n 0
-  packed_over j s h p =
-      let e : j ≡ 0 = omega arith in
-      let f : n - j ≡ n = omega arith in
-      rw (f, e) at p

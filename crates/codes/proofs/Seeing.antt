@@ -16,7 +16,7 @@ use Rattle.table.specs.declared.Row.TheVariants.{Yes, No, Is, Isnot, Any, All, G
 use Rattle.counts.proofs.Laws.{row_at-table_in}
 use Rattle.codes.specs.Layout.{Layout}
 use Rattle.codes.specs.Parts.{bit_by}
-use Rattle.codes.specs.Sights.{Sees, goal, subject, sight_by, packed}
+use Rattle.codes.specs.Sights.{Sees, goal, subject, sight_by}
 use Rattle.codes.specs.Truths.{true_by, AllWorked}
 use Rattle.codes.proofs.Looking.{look_inside}
 use Rattle.codes.proofs.Packing.{packed_bit, packed_small}

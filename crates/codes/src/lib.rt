@@ -1,3 +1,5 @@
+#![tactic(auto)]
+
 pub mod sights;
 mod truths;
 

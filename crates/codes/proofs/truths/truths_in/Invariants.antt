@@ -1,0 +1,8 @@
+-- The rows of the first k places are worked out.
+use Rattle.std.proofs.Common.{◌≡◌, length}
+use Rattle.table.specs.Rows.{table_in}
+use Rattle.codes.proofs.Passing.{Passed}
+use Rattle.codes.proofs.truths.truths_in.Given as goal
+
+abbrev pub invariant-loop-k : goal.invariant-loop-k
+invariant-loop-k l = (length l.truths ≡ 48) × Passed (table_in l.cells) l.order l.code l.k l.truths
