@@ -1,3 +1,5 @@
+#![tactic(auto)]
+
 // The truth of each row of a table at each line of a sheet.
 mod search;
 mod spots;
