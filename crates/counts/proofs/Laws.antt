@@ -37,10 +37,6 @@ names_snoc (x ∷ rows) r = omega (arith, names_snoc rows r)
 pub rows_passed : (cells : List ℕ) (i : ℕ) → i ≤ length cells → length (take i (table_in cells)) ≡ i
 rows_passed cells i h = length-take-le i (table_in cells) (simp length-map h)
 
--- all rows, once each cell is passed
-pub take-table_in : (cells : List ℕ) (i : ℕ) → length cells ≤ i → take i (table_in cells) ≡ table_in cells
-take-table_in cells i h = take_all i (table_in cells) (simp length-map h)
-
 module _ (cells : List ℕ) (i : ℕ) (inside : i < length cells) where
   pub table_next : take (i + 1) (table_in cells) ≡ take i (table_in cells) ++ (meant (row_of (get_or cells i 0)) ∷ [])
   table_next =

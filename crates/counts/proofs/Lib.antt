@@ -1,4 +1,3 @@
-pub mod Told
 pub mod Laws
 pub mod Looks
 pub mod Grown

@@ -10,17 +10,6 @@ use Rattle.meaning.specs.Table.{Dir, Table, Row, yes_row, no_row, is_row, isnot_
 use Rattle.counts.specs.Counts.{LookRow, LookRows}
 use Rattle.counts.proofs.Laws.{row_there}
 
--- a row that counts as a look row is a `go` row
-pub look_go : (r : Row) → look r ≡ 1 → (d : Dir) × (i : ℕ) × (r ≡ go_row d i)
-look_go yes_row e = absurd (omega arith)
-look_go no_row e = absurd (omega arith)
-look_go (is_row n) e = absurd (omega arith)
-look_go (isnot_row n) e = absurd (omega arith)
-look_go (any_row i j) e = absurd (omega arith)
-look_go (all_row i j) e = absurd (omega arith)
-look_go (go_row d i) e = (d, i, refl)
-look_go (stop_row d) e = absurd (omega arith)
-
 -- and a `go` row counts
 pub go_look : (rows : Table) (i : ℕ) {d : Dir} {j : ℕ} → row_at rows i ≡ go_row d j → look (row_at rows i) ≡ 1
 go_look rows i e = rw e
@@ -56,7 +45,3 @@ look_same rows j i k a b = at (dec_lt i k) (dec_lt k i)
     at (yes h) g = absurd (omega (arith, look_before rows i k h a.looking, a.place, b.place))
     at (no h) (yes g) = absurd (omega (arith, look_before rows k i g b.looking, a.place, b.place))
     at (no h) (no g) = omega arith
-
--- the list from bits to rows has each `go` row at its place
-pub look-found : (rows : Table) (found : List ℕ) → LookRows rows found → (i : ℕ) → look (row_at rows i) ≡ 1 → get_or found (looks (take i rows)) 0 ≡ i
-look-found rows found l i e = look_same rows (looks (take i rows)) (get_or found (looks (take i rows)) 0) i (l.row (looks (take i rows)) (look-below rows i e)) (look_row_lem rows i e)

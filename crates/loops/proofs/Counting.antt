@@ -55,8 +55,5 @@ count_all zero = refl
 count_all (suc n) = omega (arith, count_all n)
 
 module _ (test : ℕ → Bool) (n : ℕ) where
-  pub count-below : count test n ≤ n
-  count-below = omega (arith, count_all n, count_most test (λ k. true) n (λ k l e. refl))
-
   pub count_not_all : (i : ℕ) → i < n → test i ≡ false → count test n < n
   count_not_all i l e = omega (arith, count_all n, count_fewer test (λ k. true) n i l e refl (λ k p q. refl))

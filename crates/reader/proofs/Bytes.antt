@@ -14,10 +14,6 @@ use Rattle.reader.specs.declared.parts.Part.{Part}
 use Rattle.reader.specs.declared.parts.Part.TheVariants.{Is, Wrong}
 use Rattle.reader.specs.Parts.{Taken, taken, nothing, Gives, starts_with}
 
--- the text has a byte there, or none
-pub front : (s : List ℕ) (at : ℕ) → at < length s → drop at s ≡ get_or s at 0 ∷ drop (at + 1) s
-front s at h = rw (drop-cons s at 0, add-one)
-
 -- both lists have a byte at their front: the answer goes by the two, and then by the rest
 step : (s w : List ℕ) (i j : ℕ) → i < length s → j < length w
     → starts_with (drop i s) (drop j w) ≡ cond (eqb (get_or s i 0) (get_or w j 0)) (starts_with (drop (i + 1) s) (drop (j + 1) w)) false
@@ -62,10 +58,3 @@ stands (x ∷ s) (b ∷ w) e = at (eqb x b) refl (stands s w) e
 
 pub fits_at : (s w : List ℕ) (at : ℕ) → starts_with (drop at s) w ≡ true → length w ≤ length s - at
 fits_at s w at e = omega (arith, simp (length-append, length-drop) at (ap length (stands (drop at s) w e)))
-
--- a reader's answer taken apart
-pub gives_is : (text : List ℕ) {p : Part} {t : Taken ℕ} {n next : ℕ} → Gives text p t → p ≡ Is n next → (t ≡ taken n (drop next text)) × (next ≤ length text)
-gives_is text {t = t} g e = subst (λ (q : Part). Gives text q t) e g
-
-pub gives_wrong : (text : List ℕ) {p : Part} {t : Taken ℕ} → Gives text p t → p ≡ Wrong → t ≡ nothing
-gives_wrong text {t = t} g e = subst (λ (q : Part). Gives text q t) e g

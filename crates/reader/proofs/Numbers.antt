@@ -22,14 +22,8 @@ digit_fits x e = at (leb 48 x) refl e
     at false h p = absurd (let z : ◌≡◌ {A = ℕ} 0 1 = cc in omega arith)
 
 module _ (x : ℕ) (s : List ℕ) where
-  pub first-digit : (x ≡ 48 → ⊥) → digit x ≡ true → first x s ≡ second (x - 48) s
-  first-digit n d = rw (d, ne_eqb x 48 n)
-
   pub second-digit : (n : ℕ) → digit x ≡ true → second n (x ∷ s) ≡ taken (n * 10 + (x - 48)) s
   second-digit n d = rw d
-
-  pub second_other : (n : ℕ) → digit x ≡ false → second n (x ∷ s) ≡ taken n (x ∷ s)
-  second_other n d = rw d
 
 -- a written number; behind one digit, the rest takes no further one
 pub number_read : (n : ℕ) (rest : List ℕ) → n < 100 → (n < 10 → (m : ℕ) → second m rest ≡ taken m rest) → number_in (decimal n ++ rest) ≡ taken n rest

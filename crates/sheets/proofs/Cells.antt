@@ -12,14 +12,6 @@ use Rattle.sheets.specs.declared.Line.{Line}
 use Rattle.sheets.specs.declared.Link.{Link}
 use Rattle.sheets.specs.declared.Link.TheVariants.{To}
 
-pub link-number : (k : ℕ) → k < 1000 → link_of k ≡ To k
-link-number k h = rw (ne_eqb k 1023 (λ e. omega arith))
-
-pub short_link : (l : Link) (k : ℕ) → l ≡ To k → Linkable l → (link_of k ≡ l) × (k < 1024)
-short_link l k e h =
-    let s : k < 1000 = subst Linkable e h in
-    (link-number k s ∙ sym e, omega arith)
-
 pub packed_line : (l : Line) (n x y : ℕ) → n ≡ l.name → n < 256 → (link_of x ≡ l.first) × (x < 1024) → (link_of y ≡ l.next) × (y < 1024) → line_of (n * 1048576 + x * 1024 + y) ≡ l
 unfolding line_of
 packed_line l n x y e h f g =

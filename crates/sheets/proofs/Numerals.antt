@@ -38,10 +38,6 @@ three_digits n x l h i j =
 pub third-digit : (n x : ℕ) (s : List ℕ) → 10 ≤ n → digit x ≡ true → third n (x ∷ s) ≡ taken (To (n * 10 + (x - 48))) s
 third-digit n x s l d = rw (le-ltb n 10 l, second-digit x s n d)
 
--- no third digit: the number has but one, or none follows
-pub third_short : (n : ℕ) (s : List ℕ) → n < 10 → third n s ≡ taken (To n) s
-third_short n s h = rw (lt-ltb n 10 h)
-
 pub third_none : (n : ℕ) (s : List ℕ) → NoDigit s → third n s ≡ taken (To n) s
 third_none n s f = at (ltb n 10)
   where

@@ -25,23 +25,3 @@ get_d_map_in f [] i d e h = absurd (omega arith)
 get_d_map_in f (x ∷ xs) zero d e h = refl
 get_d_map_in f (x ∷ xs) (suc i) d e h = get_d_map_in f xs i d e (omega arith)
 
-module _ (cells : List ℕ) (n i : ℕ) where
-  pub row_inside : i < n → i < length cells → row_of (get_or cells i 0) ≡ get_or (rows_in (take n cells)) i No
-  row_inside h g =
-      let l : i < length (take n cells) = simp length-take (omega arith) in
-      sym (get_d_map_in row_of (take n cells) i 0 No l ∙ ap row_of (get_or-take n cells i 0 h))
-
-  pub row_beyond : (n ≤ i) → No ≡ get_or (rows_in (take n cells)) i No
-  row_beyond h =
-      let l : length (rows_in (take n cells)) ≤ i = simp (length-map, length-take) (omega arith) in
-      sym (get_or-eq_default (rows_in (take n cells)) No l)
-
-  pub row_outside : length cells ≤ i → No ≡ get_or (rows_in (take n cells)) i No
-  row_outside h =
-      let l : length (rows_in (take n cells)) ≤ i = simp (length-map, length-take) (omega arith) in
-      sym (get_or-eq_default (rows_in (take n cells)) No l)
-
--- a store at the first free cell is a row more
-pub row_more : (cells : List ℕ) (n cell : ℕ) (row : Row) → n < length cells → row_of cell ≡ row → rows_in (take (n + 1) (set cells n cell)) ≡ rows_in (take n cells) ++ (row ∷ [])
-row_more cells n cell row h e =
-    rw (add-one, take-suc-set cells n cell, map-append) (ap (λ (r : Row). rows_in (take n cells) ++ (r ∷ [])) e)
