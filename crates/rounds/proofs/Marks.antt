@@ -13,6 +13,7 @@ use Rattle.meaning.specs.Code.{codes}
 use Rattle.meaning.specs.Outcome.{Slices, recorded, absent, Met, at_top, onward, UsedIs, met, not_met, Searched}
 use Rattle.meaning.specs.Table.{Side, first, next, Table}
 use Rattle.meaning.proofs.Rounds.Places.{neighbour_earlier}
+use Rattle.meaning.proofs.Sides.{sides}
 use Rattle.rounds.proofs.Places.{kept_same, kept_then, kept_store}
 use Rattle.rounds.specs.Kept.{Kept}
 use Rattle.rounds.specs.Used.{marked, Linked, Marking, Handed}
@@ -151,7 +152,7 @@ module _ {n : ℕ} {x : Slices} (f : Linked n x) {top : ℕ} where
         let in-next : w ≢ absent → w < length (marked v used) = λ z. rw (length_marked v used) (omega (arith, f.is_code next t l z)) in
         let second = one {x = x} {t = t} next (marked v used) in-next in
         handed (marked w (marked v used)) l i u (twice (one {x = x} {t = t} first used in-first) second)
-        (λ s. elim s [ first ↦ λ z. second.stay v (marked_there v used z (in-first z)) | next ↦ λ z. marked_there w (marked v used) z (in-next z) ])
+        (sides _ (λ z. second.stay v (marked_there v used z (in-first z))) (λ z. marked_there w (marked v used) z (in-next z)))
 
   -- a round is done, and the one below it is next
   pub round_below : {r : ℕ} {used : List ℕ} → 0 < r → Marking n x top r n used → Marking n x top (r - 1) 0 used

@@ -3,11 +3,11 @@ use Prim.Native.Nat.{ℕ, suc, ◌+◌, ◌-◌, ◌<◌, ◌≤◌}
 use native.Mathlib.Omega.{arith}
 use native.Mathlib.Decide.{ℕ_discrete, dec_lt}
 use mathlib.Core.Bool.{Bool, true, false}
-use mathlib.Core.Path.{◌≡◌, refl, sym, subst, ◌∙◌}
+use mathlib.Core.Path.{◌≡◌, refl, sym, ◌∙◌}
 use lib.ListN.{get_or}
 use Rattle.meaning.specs.Code.{codes, Good}
 use Rattle.meaning.specs.Marked.{Smallest}
-use Rattle.meaning.specs.Outcome.{Slices, recorded, absent, Accepted, entered, not_entered, left_out, Searched}
+use Rattle.meaning.specs.Outcome.{Slices, recorded, absent, Accepted, not_entered, left_out, Searched}
 use Rattle.meaning.specs.Table.{Side, Table}
 use Rattle.meaning.proofs.Outcome.Bound.{bound}
 use Rattle.meaning.proofs.Outcome.Conclude.{round_of}
@@ -16,7 +16,6 @@ use Rattle.meaning.proofs.Rounds.Smallest.{smallest_code, smallest_pos}
 use Rattle.rounds.specs.Ended.{GoodIn, TopIs, Before, Reached, Exhausted}
 use Rattle.rounds.specs.Kept.{KeptAll}
 use Rattle.rounds.specs.Round.{Halfway, Visited, Over}
-use Rattle.rounds.specs.declared.Top.{Top}
 use Rattle.rounds.specs.declared.Top.TheVariants.{At, Nowhere}
 use Rattle.rounds.proofs.Places.{all_same, all_then}
 use Rattle.rounds.proofs.Visits.{not_both}
@@ -92,12 +91,12 @@ module _ {rows : Table} (a : Accepted rows) {k : ℕ} {x : Slices} (b : Before r
         each j p (no e) l = b.each_round j p (omega arith)
 
     -- by what the scan for a top says
-    module _ {c : ℕ} {top : Top} (count : c ≡ codes rows) (t : TopIs rows c y.round k top) where
-      pub ends : {u : ℕ} → top ≡ At u → Reached rows k u y
-      ends {u} e = let g = subst (λ (z : Top). TopIs rows (codes rows) y.round k z) e (rw count at t) in reached g.0 g.1
+    module _ {c : ℕ} (count : c ≡ codes rows) where
+      pub ends : {u : ℕ} → TopIs rows c y.round k (At u) → Reached rows k u y
+      ends t = let g = rw count at t in reached g.0 g.1
 
-      pub goes_on : (w : ℕ) × Smallest rows w k → top ≡ Nowhere → Before rows (k + 1) y
-      goes_on w e = next_round w (subst (λ (z : Top). TopIs rows (codes rows) y.round k z) e (rw count at t))
+      pub goes_on : (w : ℕ) × Smallest rows w k → TopIs rows c y.round k Nowhere → Before rows (k + 1) y
+      goes_on w t = next_round w (rw count at t)
 
     pub exhausted : Searched rows (k - 1) y → Exhausted rows (k - 1) y
     exhausted s = record {
