@@ -15,18 +15,7 @@ use Rattle.counts.proofs.Laws.{row_at-table_in}
 use Rattle.table.specs.Decides.{Decides}
 use Rattle.codes.specs.Layout.{Looking}
 use Rattle.codes.specs.Parts.{bit_by}
-use Rattle.codes.specs.Sights.{goal}
 use Rattle.codes.proofs.Parts.{bit_decides}
-
-pub no_goal : (r : Row) → look (meant r) ≡ 0 → goal r ≡ 0
-no_goal Yes e = refl
-no_goal No e = refl
-no_goal (Is n) e = refl
-no_goal (Isnot n) e = refl
-no_goal (Any i j) e = refl
-no_goal (All i j) e = refl
-no_goal (Go d i) e = absurd (omega arith)
-no_goal (Stop d) e = refl
 
 pub no_go : (r : Row) → ((d i : ℕ) → r ≡ Go d i → ⊥) → look (meant r) ≡ 0
 no_go Yes n = refl

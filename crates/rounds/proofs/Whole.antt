@@ -1,9 +1,9 @@
--- Whole rounds: how they start, how one is under way before its first visit and over after its last, and how they end.
+-- Whole rounds: how they start, how one is under way, and how they end.
 use Prim.Native.Nat.{ℕ, suc, ◌+◌, ◌-◌, ◌<◌, ◌≤◌}
 use native.Mathlib.Omega.{arith}
 use native.Mathlib.Decide.{ℕ_discrete, dec_lt}
 use mathlib.Core.Bool.{Bool, true, false}
-use mathlib.Core.Path.{◌≡◌, refl, sym, ◌∙◌}
+use mathlib.Core.Path.{◌≡◌}
 use lib.ListN.{get_or}
 use Rattle.meaning.specs.Code.{codes, Good}
 use Rattle.meaning.specs.Marked.{Smallest}
@@ -15,10 +15,8 @@ use Rattle.meaning.proofs.Rounds.Places.{was_entered, round_le}
 use Rattle.meaning.proofs.Rounds.Smallest.{smallest_code, smallest_pos}
 use Rattle.rounds.specs.Ended.{GoodIn, TopIs, Before, Reached, Exhausted}
 use Rattle.rounds.specs.Kept.{KeptAll}
-use Rattle.rounds.specs.Round.{Halfway, Visited, Over}
+use Rattle.rounds.specs.Round.{Halfway}
 use Rattle.rounds.specs.declared.Top.TheVariants.{At, Nowhere}
-use Rattle.rounds.proofs.Places.{all_same, all_then}
-use Rattle.rounds.proofs.Visits.{not_both}
 
 module _ {rows : Table} where
   -- nothing is entered before round 1
@@ -29,15 +27,6 @@ module _ {rows : Table} where
     each_round = λ j p l. absurd (omega arith);
     none_good = λ c l g. r c l;
   }
-
-  pub begin : {k : ℕ} {x : Slices} → 0 < k → Searched rows (k - 1) x → Halfway rows k 0 x
-  begin p s = record { running = p; visited = λ c l q. absurd (omega arith); waiting = λ c l q. s.rounds c l; neighbours = s.neighbours }
-
-  pub over : {k : ℕ} {x : Slices} → Halfway rows k (codes rows) x → Searched rows k x
-  over h = record { rounds = λ c l. h.visited c l l; neighbours = h.neighbours }
-
-  pub still : {k : ℕ} {x y : Slices} → Searched rows (k - 1) x → y.round ≡ x.round → Halfway rows k (codes rows) y → Searched rows (k - 1) y
-  still s e h = record { rounds = λ c l. rw e (s.rounds c l); neighbours = h.neighbours }
 
 module _ {rows : Table} (a : Accepted rows) {k : ℕ} {x : Slices} (b : Before rows k x) where
   -- round numbers fit: the limit is 12 × 4,096
@@ -112,17 +101,3 @@ pub record Going (rows : Table) (k t : ℕ) (some : Bool) (old x : Slices) : Typ
   pub enters : some ≡ true → (c : ℕ) × Smallest rows c k
   pub idle : some ≡ false → x.round ≡ old.round
   pub kept : KeptAll (codes rows) old x
-
-module _ {rows : Table} {k : ℕ} {old : Slices} where
-  pub going_start : 0 < k → Searched rows (k - 1) old → Going rows k 0 false old old
-  going_start p s = record { halfway = begin p s; enters = λ e. not_both (sym e); idle = λ e. refl; kept = all_same }
-
-  module _ {t : ℕ} {x y : Slices} {some any new : Bool} (p : Going rows k t some old x) (q : Visited rows k t new x y) where
-    pub going_new : new ≡ true → any ≡ true → Going rows k (t + 1) any old y
-    going_new e i = record { halfway = q.halfway; enters = λ w. (t, q.enters e); idle = λ w. not_both (sym i ∙ w); kept = all_then p.kept q.kept }
-
-    pub going_past : new ≡ false → any ≡ some → Going rows k (t + 1) any old y
-    going_past e i = record { halfway = q.halfway; enters = λ w. p.enters (sym i ∙ w); idle = λ w. q.idle e ∙ p.idle (sym i ∙ w); kept = all_then p.kept q.kept }
-
-  pub going_over : {some : Bool} {x : Slices} → Searched rows (k - 1) old → Going rows k (codes rows) some old x → Over rows k some old x
-  going_over s p = record { searched = over p.halfway; enters = p.enters; idle = λ e. still s (p.idle e) p.halfway; kept = p.kept }
