@@ -15,7 +15,6 @@ use Rattle.counts.proofs.Laws.{row_at-table_in}
 use Rattle.table.specs.Decides.{Decides}
 use Rattle.codes.specs.Layout.{Looking}
 use Rattle.codes.specs.Parts.{bit_by}
-use Rattle.codes.specs.Sights.{goal}
 use Rattle.codes.proofs.Parts.{bit_decides}
 
 pub no_go : (r : Row) → ((d i : ℕ) → r ≡ Go d i → ⊥) → look (meant r) ≡ 0

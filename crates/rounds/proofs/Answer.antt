@@ -8,6 +8,7 @@ use Rattle.meaning.specs.Code.{codes}
 use Rattle.meaning.specs.Outcome.{recorded, absent, Accepted, Searched, is_sat, is_unsat}
 use Rattle.meaning.specs.Table.{Side, first, next, Table}
 use Rattle.meaning.proofs.Outcome.Conclude.{conclude_sat, conclude_unsat}
+use Rattle.meaning.proofs.Sides.{sides}
 use Rattle.rounds.specs.Ended.{Before, EndsAs, Ended}
 use Rattle.rounds.specs.Found.{Answered}
 use Rattle.rounds.specs.Kept.{lent, Room, Kept, KeptAll, Cleared}
@@ -25,14 +26,14 @@ same_beside r f n u first = refl
 same_beside r f n u next = refl
 
 with_used : {rows : Table} {k : ℕ} {r f n u : List ℕ} → Searched rows k (running r f n) → Searched rows k (lent r f n u)
-with_used {u = u} s = record { rounds = s.rounds; neighbours = λ d. elim d [ first ↦ s.neighbours first | next ↦ s.neighbours next ] }
+with_used {u = u} s = record { rounds = s.rounds; neighbours = sides _ (s.neighbours first) (s.neighbours next) }
 
 -- slices lent, and cleared
 module _ {c : ℕ} {r f n u r₁ f₁ n₁ u₁ : List ℕ} (d : Cleared c (lent r f n u) (lent r₁ f₁ n₁ u₁)) where
   pub before_one : {rows : Table} → c ≡ codes rows → Before rows 1 (running r₁ f₁ n₁)
   before_one e = start
       (λ i l. rw d.no_round (cleared-below 0 c r i (rw e l)))
-      (λ s. elim s [ first ↦ λ i l. rw d.no_first (cleared-below absent c f i (rw e l)) | next ↦ λ i l. rw d.no_next (cleared-below absent c n i (rw e l)) ])
+      (sides _ (λ i l. rw d.no_first (cleared-below absent c f i (rw e l))) (λ i l. rw d.no_next (cleared-below absent c n i (rw e l))))
 
   pub none_used : (i : ℕ) → i < c → get_or u₁ i 0 ≡ 0
   none_used i l = rw d.no_used (cleared-below 0 c u i l)

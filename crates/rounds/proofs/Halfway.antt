@@ -104,7 +104,7 @@ module _ {rows : Table} (a : Accepted rows) {k t : ℕ} {x : Slices} (h : Halfwa
       enters_here = enters_now rows k t h.running ((ready_within rows k t h.running).1 ready) (λ w. omega (arith, (within_earlier t w).1))
 
       -- the slices with code t entered
-      module _ {y : Slices} (at_t : get_or y.round t 0 ≡ k) (elsewhere : (c : ℕ) → c ≢ t → get_or y.round c 0 ≡ get_or x.round c 0)
+      module _ (y : Slices) (at_t : get_or y.round t 0 ≡ k) (elsewhere : (c : ℕ) → c ≢ t → get_or y.round c 0 ≡ get_or x.round c 0)
           (beside-t : (s : Side) → get_or (recorded y s) t 0 ≡ v s) (beside : (s : Side) (c : ℕ) → c ≢ t → get_or (recorded y s) c 0 ≡ get_or (recorded x s) c 0) where
         -- what is entered now is of no earlier round than anything
         still_earlier : {c w : ℕ} → c ≢ t → Earlier rows x.round c w → Earlier rows y.round c w

@@ -1,8 +1,7 @@
--- Laws of `Marking`: how the marks start, how one code hands its mark on or has none to hand on, how a round is done, and that in the end
--- exactly the codes met are marked.
-use Prim.Native.Nat.{ℕ, ◌+◌, ◌-◌, ◌<◌, ◌≤◌}
+-- Laws of `Marking`: how the marks start, how one code hands its mark on, and that in the end exactly the codes met are marked.
+use Prim.Native.Nat.{ℕ, ◌+◌, ◌<◌, ◌≤◌}
 use native.Mathlib.Omega.{arith}
-use native.Mathlib.Decide.{ℕ_discrete, dec_lt}
+use native.Mathlib.Decide.{ℕ_discrete}
 use mathlib.Core.List.{List}
 use mathlib.Core.Logic.{◌⊎◌, inl, inr, ◌≢◌}
 use mathlib.Core.Path.{◌≡◌, refl, sym, subst, ◌∙◌}
@@ -13,6 +12,7 @@ use Rattle.meaning.specs.Code.{codes}
 use Rattle.meaning.specs.Outcome.{Slices, recorded, absent, Met, at_top, onward, UsedIs, met, not_met, Searched}
 use Rattle.meaning.specs.Table.{Side, first, next, Table}
 use Rattle.meaning.proofs.Rounds.Places.{neighbour_earlier}
+use Rattle.meaning.proofs.Sides.{sides}
 use Rattle.rounds.proofs.Places.{kept_same, kept_then, kept_store}
 use Rattle.rounds.specs.Kept.{Kept}
 use Rattle.rounds.specs.Used.{marked, Linked, Marking, Handed}
@@ -105,18 +105,6 @@ module _ {n : ℕ} {x : Slices} (f : Linked n x) {top : ℕ} where
       late c b k w (no m) = omega (arith, get_or-set_other used top c 1 0 m, z c b)
 
   module _ {r t : ℕ} {used : List ℕ} (k : Marking n x top r t used) where
-    -- code t has no mark, or is not of this round
-    pub pass_by : (get_or x.round t 0 ≡ r → get_or used t 0 ≡ 1 → ⊥) → Marking n x top r (t + 1) used
-    pass_by no_mark = record {
-      marks = k.marks;
-      top_marked = k.top_marked;
-      handed_on = λ c b e q w. k.handed_on c b e q (λ i. at c i e (w i) (ℕ_discrete c t));
-    }
-      where
-        at : (c : ℕ) → get_or x.round c 0 ≡ r → get_or used c 0 ≡ 1 → c < t + 1 → Dec (c ≡ t) → c < t
-        at c i e l (yes j) = absurd (no_mark (rw j at i) (rw j at e))
-        at c i e l (no j) = omega arith
-
     -- code t hands its mark on
     handed : (new : List ℕ) → t < n → get_or x.round t 0 ≡ r → get_or used t 0 ≡ 1 → More x t used new
         → ((s : Side) → get_or (recorded x s) t 0 ≢ absent → get_or new (get_or (recorded x s) t 0) 0 ≡ 1) → Marking n x top r (t + 1) new
@@ -151,19 +139,7 @@ module _ {n : ℕ} {x : Slices} (f : Linked n x) {top : ℕ} where
         let in-next : w ≢ absent → w < length (marked v used) = λ z. rw (length_marked v used) (omega (arith, f.is_code next t l z)) in
         let second = one {x = x} {t = t} next (marked v used) in-next in
         handed (marked w (marked v used)) l i u (twice (one {x = x} {t = t} first used in-first) second)
-        (λ s. elim s [ first ↦ λ z. second.stay v (marked_there v used z (in-first z)) | next ↦ λ z. marked_there w (marked v used) z (in-next z) ])
-
-  -- a round is done, and the one below it is next
-  pub round_below : {r : ℕ} {used : List ℕ} → 0 < r → Marking n x top r n used → Marking n x top (r - 1) 0 used
-  round_below {r} p k = record {
-    marks = k.marks;
-    top_marked = k.top_marked;
-    handed_on = λ c b e q w. k.handed_on c b e (above c q w (dec_lt (get_or x.round c 0) r)) (λ i. b);
-  }
-    where
-      above : (c : ℕ) → r - 1 ≤ get_or x.round c 0 → (get_or x.round c 0 ≡ r - 1 → c < 0) → Dec (get_or x.round c 0 < r) → r ≤ get_or x.round c 0
-      above c q w (no b) = omega arith
-      above c q w (yes l) = let i : get_or x.round c 0 ≡ r - 1 = omega arith in absurd (omega (arith, w i))
+        (sides _ (λ z. second.stay v (marked_there v used z (in-first z))) (λ z. marked_there w (marked v used) z (in-next z)))
 
   module _ (l : top < n) (p : 0 < get_or x.round top 0) where
     met_code : {c : ℕ} → Met x top c → (c < n) × (0 < get_or x.round c 0)
@@ -184,21 +160,12 @@ module _ {n : ℕ} {x : Slices} (f : Linked n x) {top : ℕ} where
 
 -- the same, whatever the top is
 module _ {n : ℕ} {x : Slices} (f : Linked n x) {r t : ℕ} {used : List ℕ} where
-  pub visit_none : (get_or x.round t 0 ≡ r → get_or used t 0 ≡ 1 → ⊥) → Handed n x r t (t + 1) used used
-  visit_none m = record { kept = kept_same; hands = λ top k. pass_by f k m }
-
   pub visit_both : {one two : List ℕ} → t < n → get_or x.round t 0 ≡ r → get_or used t 0 ≡ 1 → n ≤ length used
       → one ≡ marked (get_or x.firsts t 0) used → two ≡ marked (get_or x.nexts t 0) one → Handed n x r t (t + 1) used two
   visit_both {one} {two} l i u room d e = rw (e, d) (record {
     kept = kept_then (kept_marked (get_or x.firsts t 0) used (f.is_code first t l)) (kept_marked (get_or x.nexts t 0) (marked (get_or x.firsts t 0) used) (f.is_code next t l));
     hands = λ top k. hand_on f k l i u room;
   })
-
-  pub visit_then : {m : ℕ} {one two : List ℕ} → Handed n x r t m used one → Handed n x r m (m + 1) one two → Handed n x r t (m + 1) used two
-  visit_then p q = record { kept = kept_then p.kept q.kept; hands = λ top k. q.hands top (p.hands top k) }
-
-pub visit_start : {n : ℕ} {x : Slices} {r t : ℕ} {used : List ℕ} → Handed n x r t t used used
-visit_start = record { kept = kept_same; hands = λ top k. k }
 
 -- what is met depends on first and next alone
 module _ {x y : Slices} (same : (s : Side) → recorded x s ≡ recorded y s) {top : ℕ} where

@@ -46,9 +46,6 @@ module _ {cells places order look : List ℕ} {m c : ℕ} (g : Given cells place
   unfolding codes
   few_codes = omega (arith, g.count, g.accepted.room)
 
-  pub narrow : m < 64
-  narrow = omega (arith, g.layout.laid.width.small)
-
   module _ {round : List ℕ} {k d t : ℕ} (h : (1 ≤ d) × (d ≤ 2)) where
     -- the codes that are dropped are not taken
     pub no_candidate : (u : ℕ) → (Candidate round m k (d + 2) u → ⊥) → Taken (table_in cells) round k (side_of d) t u → ⊥

@@ -4,7 +4,7 @@ use native.Mathlib.Omega.{arith}
 use mathlib.Core.Bool.{Bool, true, false}
 use mathlib.Core.List.{List}
 use mathlib.Core.Logic.{◌≢◌}
-use mathlib.Core.Path.{◌≡◌, refl, sym, subst}
+use mathlib.Core.Path.{◌≡◌, refl, sym}
 use lib.ListN.{get_or, length, set}
 use lib.Seq.{get_or-set_same, get_or-set_other}
 use Rattle.meaning.specs.Code.{codes, Proper}
@@ -13,9 +13,7 @@ use Rattle.meaning.specs.Table.{Side, first, next}
 use Rattle.table.specs.Rows.{table_in}
 use Rattle.rounds.specs.Given.{Given}
 use Rattle.rounds.specs.Kept.{Room}
-use Rattle.rounds.specs.Round.{running, SideIs, Settles, Halfway, Visited}
-use Rattle.rounds.specs.declared.scan.Beside.{Beside}
-use Rattle.rounds.specs.declared.scan.Beside.TheVariants.{Settled, Stop}
+use Rattle.rounds.specs.Round.{running, Settles, Stuck, Halfway, Visited}
 use Rattle.rounds.proofs.Halfway.{not_absent, was_there, improper, stuck, enters_here, enter}
 use Rattle.rounds.proofs.Places.{all_same, all_kept, kept_same, kept_store}
 
@@ -40,19 +38,18 @@ module _ {cells places order look : List ℕ} {m c : ℕ} (g : Given cells place
     pub not_proper : (Proper (table_in cells) t → ⊥) → Visited (table_in cells) k t false (running r f n) (running r f n)
     not_proper d = left_alone (improper g.accepted h is_code e d)
 
-    pub stuck_there : (s : Side) {b : Beside} → SideIs (table_in cells) r k s t b → b ≡ Stop → Visited (table_in cells) k t false (running r f n) (running r f n)
-    stuck_there s y i = left_alone (stuck g.accepted h is_code e (subst (λ (b : Beside). SideIs (table_in cells) r k s t b) i y))
+    pub stuck_there : {s : Side} → Stuck (table_in cells) r k s t → Visited (table_in cells) k t false (running r f n) (running r f n)
+    stuck_there y = left_alone (stuck g.accepted h is_code e y)
 
-    module _ (p : Proper (table_in cells) t) {a b : ℕ} {y z : Beside} (one : SideIs (table_in cells) r k first t y) (i : y ≡ Settled a)
-        (two : SideIs (table_in cells) r k next t z) (j : z ≡ Settled b) where
+    module _ (p : Proper (table_in cells) t) {a b : ℕ} (one : Settles (table_in cells) r k first t a) (two : Settles (table_in cells) r k next t b) where
       value : Side → ℕ
       value first = a
       value next = b
 
       settled : (s : Side) → Settles (table_in cells) r k s t (value s)
       unfolding value
-      settled first = subst (λ (b : Beside). SideIs (table_in cells) r k first t b) i one
-      settled next = subst (λ (b : Beside). SideIs (table_in cells) r k next t b) j two
+      settled first = one
+      settled next = two
 
       at_t : (s : Side) → get_or (recorded (running (set r t k) (set f t a) (set n t b)) s) t 0 ≡ value s
       unfolding value
@@ -65,7 +62,7 @@ module _ {cells places order look : List ℕ} {m c : ℕ} (g : Given cells place
 
       pub goes_in : Visited (table_in cells) k t true (running r f n) (running (set r t k) (set f t a) (set n t b))
       goes_in = record {
-        halfway = enter g.accepted h is_code e p value settled (let w : t < length r = omega (arith, room.room_round) in get_or-set_same r t k 0 w) (λ u d. get_or-set_other r t u k 0 d) at_t elsewhere;
+        halfway = enter g.accepted h is_code e p value settled _ (let w : t < length r = omega (arith, room.room_round) in get_or-set_same r t k 0 w) (λ u d. get_or-set_other r t u k 0 d) at_t elsewhere;
         enters = λ w. enters_here g.accepted h is_code e p value settled;
         idle = λ w. not_both w;
         kept = all_kept (kept_store r t k is_code) (kept_store f t a is_code) (kept_store n t b is_code) kept_same;

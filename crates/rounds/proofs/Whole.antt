@@ -1,13 +1,13 @@
--- Whole rounds: how they start, how one is under way before its first visit and over after its last, and how they end.
+-- Whole rounds: how they start, how one is under way, and how they end.
 use Prim.Native.Nat.{ℕ, suc, ◌+◌, ◌-◌, ◌<◌, ◌≤◌}
 use native.Mathlib.Omega.{arith}
 use native.Mathlib.Decide.{ℕ_discrete, dec_lt}
 use mathlib.Core.Bool.{Bool, true, false}
-use mathlib.Core.Path.{◌≡◌, refl, sym, subst, ◌∙◌}
+use mathlib.Core.Path.{◌≡◌}
 use lib.ListN.{get_or}
 use Rattle.meaning.specs.Code.{codes, Good}
 use Rattle.meaning.specs.Marked.{Smallest}
-use Rattle.meaning.specs.Outcome.{Slices, recorded, absent, Accepted, entered, not_entered, left_out, Searched}
+use Rattle.meaning.specs.Outcome.{Slices, recorded, absent, Accepted, not_entered, left_out, Searched}
 use Rattle.meaning.specs.Table.{Side, Table}
 use Rattle.meaning.proofs.Outcome.Bound.{bound}
 use Rattle.meaning.proofs.Outcome.Conclude.{round_of}
@@ -15,11 +15,8 @@ use Rattle.meaning.proofs.Rounds.Places.{was_entered, round_le}
 use Rattle.meaning.proofs.Rounds.Smallest.{smallest_code, smallest_pos}
 use Rattle.rounds.specs.Ended.{GoodIn, TopIs, Before, Reached, Exhausted}
 use Rattle.rounds.specs.Kept.{KeptAll}
-use Rattle.rounds.specs.Round.{Halfway, Visited, Over}
-use Rattle.rounds.specs.declared.Top.{Top}
+use Rattle.rounds.specs.Round.{Halfway}
 use Rattle.rounds.specs.declared.Top.TheVariants.{At, Nowhere}
-use Rattle.rounds.proofs.Places.{all_same, all_then}
-use Rattle.rounds.proofs.Visits.{not_both}
 
 module _ {rows : Table} where
   -- nothing is entered before round 1
@@ -30,15 +27,6 @@ module _ {rows : Table} where
     each_round = λ j p l. absurd (omega arith);
     none_good = λ c l g. r c l;
   }
-
-  pub begin : {k : ℕ} {x : Slices} → 0 < k → Searched rows (k - 1) x → Halfway rows k 0 x
-  begin p s = record { running = p; visited = λ c l q. absurd (omega arith); waiting = λ c l q. s.rounds c l; neighbours = s.neighbours }
-
-  pub over : {k : ℕ} {x : Slices} → Halfway rows k (codes rows) x → Searched rows k x
-  over h = record { rounds = λ c l. h.visited c l l; neighbours = h.neighbours }
-
-  pub still : {k : ℕ} {x y : Slices} → Searched rows (k - 1) x → y.round ≡ x.round → Halfway rows k (codes rows) y → Searched rows (k - 1) y
-  still s e h = record { rounds = λ c l. rw e (s.rounds c l); neighbours = h.neighbours }
 
 module _ {rows : Table} (a : Accepted rows) {k : ℕ} {x : Slices} (b : Before rows k x) where
   -- round numbers fit: the limit is 12 × 4,096
@@ -92,12 +80,12 @@ module _ {rows : Table} (a : Accepted rows) {k : ℕ} {x : Slices} (b : Before r
         each j p (no e) l = b.each_round j p (omega arith)
 
     -- by what the scan for a top says
-    module _ {c : ℕ} {top : Top} (count : c ≡ codes rows) (t : TopIs rows c y.round k top) where
-      pub ends : {u : ℕ} → top ≡ At u → Reached rows k u y
-      ends {u} e = let g = subst (λ (z : Top). TopIs rows (codes rows) y.round k z) e (rw count at t) in reached g.0 g.1
+    module _ {c : ℕ} (count : c ≡ codes rows) where
+      pub ends : {u : ℕ} → TopIs rows c y.round k (At u) → Reached rows k u y
+      ends t = let g = rw count at t in reached g.0 g.1
 
-      pub goes_on : (w : ℕ) × Smallest rows w k → top ≡ Nowhere → Before rows (k + 1) y
-      goes_on w e = next_round w (subst (λ (z : Top). TopIs rows (codes rows) y.round k z) e (rw count at t))
+      pub goes_on : (w : ℕ) × Smallest rows w k → TopIs rows c y.round k Nowhere → Before rows (k + 1) y
+      goes_on w t = next_round w (rw count at t)
 
     pub exhausted : Searched rows (k - 1) y → Exhausted rows (k - 1) y
     exhausted s = record {
@@ -113,17 +101,3 @@ pub record Going (rows : Table) (k t : ℕ) (some : Bool) (old x : Slices) : Typ
   pub enters : some ≡ true → (c : ℕ) × Smallest rows c k
   pub idle : some ≡ false → x.round ≡ old.round
   pub kept : KeptAll (codes rows) old x
-
-module _ {rows : Table} {k : ℕ} {old : Slices} where
-  pub going_start : 0 < k → Searched rows (k - 1) old → Going rows k 0 false old old
-  going_start p s = record { halfway = begin p s; enters = λ e. not_both (sym e); idle = λ e. refl; kept = all_same }
-
-  module _ {t : ℕ} {x y : Slices} {some any new : Bool} (p : Going rows k t some old x) (q : Visited rows k t new x y) where
-    pub going_new : new ≡ true → any ≡ true → Going rows k (t + 1) any old y
-    going_new e i = record { halfway = q.halfway; enters = λ w. (t, q.enters e); idle = λ w. not_both (sym i ∙ w); kept = all_then p.kept q.kept }
-
-    pub going_past : new ≡ false → any ≡ some → Going rows k (t + 1) any old y
-    going_past e i = record { halfway = q.halfway; enters = λ w. p.enters (sym i ∙ w); idle = λ w. q.idle e ∙ p.idle (sym i ∙ w); kept = all_then p.kept q.kept }
-
-  pub going_over : {some : Bool} {x : Slices} → Searched rows (k - 1) old → Going rows k (codes rows) some old x → Over rows k some old x
-  going_over s p = record { searched = over p.halfway; enters = p.enters; idle = λ e. still s (p.idle e) p.halfway; kept = p.kept }

@@ -1,3 +1,5 @@
+#![tactic(auto)]
+
 mod enter;
 mod fill;
 mod scan;
