@@ -5,10 +5,10 @@ use mathlib.Core.Bool.{false}
 use mathlib.Core.List.{List}
 use mathlib.Core.Logic.{◌⊎◌, inl, inr}
 use mathlib.Core.Path.{◌≡◌, refl}
-use lib.ListN.{length, take, length-map}
+use lib.ListN.{length, take}
 use Rattle.meaning.specs.Table as M
 use Rattle.meaning.specs.Tree.{Tree}
-use Rattle.table.specs.Rows.{row_of, rows_of, table_of}
+use Rattle.table.specs.Rows.{rows_of, table_of}
 use Rattle.table.specs.declared.Table.{Table}
 use Rattle.intake.specs.Loading.{Answered}
 use Rattle.intake.specs.declared.Loaded.{Loaded}
@@ -29,7 +29,6 @@ use Rattle.sheets.proofs.Tree.Sheet.{sheet_tree}
 use Rattle.judge.specs.Judging.{Numbers, JudgesLines, JudgesSheet, by_sheet, by_lines, Judges, by_table, admitted}
 use Rattle.judge.specs.Ready.{Ready, ReadyTable}
 use Rattle.judge.specs.declared.Judged.{Judged}
-use Rattle.judge.proofs.Judging.{table_few}
 
 -- what accepted lines are
 pub record Fine (lines : List Line) : Type 0 where
@@ -41,10 +40,6 @@ accepted (fine x f) = record { some = some_line x; free = f }
 
 pub grown : (text : List ℕ) (lines : List Line) → Loads text (lines_read lines) → (t : Tree) × SheetTree lines t
 grown text lines l = let f = accepted l in sheet_tree lines f.some f.free
-
--- a table that was admitted has its cells
-pub rows_few : {t : Table} → ReadyTable t → t.rows ≤ 48
-rows_few {t} r = omega (arith, r.count, table_few (take t.rows t.cells) r.admissible.few_rows, length-map (take t.rows t.cells) row_of)
 
 module _ {sheet : List ℕ} {s : Read} (x : Links.Loaded sheet s) where
   pub small_refusal : (s.refusal ≡ 0 → ⊥) → (s.refusal ≤ 10) × (s.place ≤ line_limit)

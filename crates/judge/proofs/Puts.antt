@@ -1,16 +1,11 @@
 -- Bytes put one after another at a place of lent memory.
-use Prim.Native.Nat.{ℕ, ◌+◌, ◌<◌, ◌≤◌}
-use mathlib.Core.List.{List, [], ◌∷◌, ◌++◌, append_assoc, append-nil}
-use mathlib.Core.Path.{◌≡◌, refl, sym, ap, subst, ◌∙◌}
-use native.Mathlib.Numerals.{add-one}
+use Prim.Native.Nat.{ℕ, ◌+◌, ◌≤◌}
+use mathlib.Core.List.{List, [], ◌++◌, append_assoc, append-nil}
+use mathlib.Core.Path.{◌≡◌, sym, ap, subst, ◌∙◌}
 use native.Mathlib.Omega.{arith}
-use lib.ListN.{length, drop, take, set, length-append}
-use lib.Seq.{set_split, length-take-le, take_at, drop_at, drop-drop}
+use lib.ListN.{length, drop, take, length-append}
+use lib.Seq.{length-take-le, take_at, drop_at, drop-drop}
 use Rattle.judge.specs.Writing.{Put}
-
--- A store puts one byte.
-pub put_one : (old : List ℕ) (at byte : ℕ) → at < length old → Put at (byte ∷ []) old (set old at byte) (at + 1)
-put_one old at byte h = record { stands = rw add-one (set_split old at byte h); ends = refl }
 
 -- What is put in two parts, the second right behind the first.
 pub put_both : {at between after : ℕ} {xs ys old mid new : List ℕ} → at ≤ length old → Put at xs old mid between → Put between ys mid new after → Put at (xs ++ ys) old new after
@@ -30,9 +25,6 @@ pub record Partly (whole rest old new : List ℕ) (at : ℕ) : Type 0 where
   pub done : List ℕ
   pub put : Put 0 done old new at
   pub parts : whole ≡ done ++ rest
-
-pub partly_none : (whole old : List ℕ) → Partly whole whole old old 0
-partly_none whole old = record { done = []; put = record { stands = refl; ends = refl }; parts = refl }
 
 pub partly_room : {whole old new : List ℕ} {at : ℕ} (bytes rest : List ℕ) → Partly whole (bytes ++ rest) old new at → at + length bytes ≤ length whole
 partly_room bytes rest p =

@@ -1,3 +1,5 @@
+#![tactic(auto)]
+
 // Where a rule holds on a sheet: the truth of row 0 at each of its lines.
 mod output;
 
@@ -21,8 +23,7 @@ pub struct Judged {
 // The most bytes that are written: 10 lines of 4 bytes, 90 of 5 and 155 of 6.
 pub const OUTPUT: usize = 1420;
 
-#[unsafe(no_mangle)]
-pub extern "C" fn judge(table: &[u8], sheet: &[u8], out: &mut [u8]) -> Judged
+pub fn judge(table: &[u8], sheet: &[u8], out: &mut [u8]) -> Judged
     ensures { Judges table.now sheet.now out.old out.new result }
 {
     let l = intake::admit(table);

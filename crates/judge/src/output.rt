@@ -12,6 +12,7 @@ use table::Table;
 use truths::CELLS;
 
 // Each line has four bytes, one more from line 10 on and again one more from line 100 on.
+#[tactic(auto, using(crate::proofs::Verdicts::output_length_lem))]
 pub(crate) fn length_of(n: usize) -> usize
     requires { n ≤ line_limit }
     ensures output_length { OutputLength n result }
@@ -61,6 +62,7 @@ fn write_line(out: &mut [u8], at: usize, i: usize, digit: usize) -> usize
     put(out, feed, b'\n')
 }
 
+#[tactic(auto, using(sheets::proofs::Numerals::two_digits, crate::proofs::Verdicts::numeral_three))]
 fn write_numeral(out: &mut [u8], at: usize, i: usize) -> usize
     requires { (i < 1000) × (at + length (numeral i) ≤ length out.old) }
     ensures { Put at (numeral i) out.old out.new result }
@@ -73,6 +75,7 @@ fn write_numeral(out: &mut [u8], at: usize, i: usize) -> usize
     put_digit(out, ones, i % 10)
 }
 
+#[tactic(auto, using(crate::proofs::Verdicts::decimal_one, crate::proofs::Verdicts::decimal_two))]
 fn write_decimal(out: &mut [u8], at: usize, n: usize) -> usize
     requires { (n < 100) × (at + length (decimal n) ≤ length out.old) }
     ensures { Put at (decimal n) out.old out.new result }
