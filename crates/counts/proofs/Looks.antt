@@ -2,12 +2,12 @@
 use Prim.Native.Nat.{ℕ, zero, suc, ◌+◌, ◌<◌, ◌≤◌}
 use native.Mathlib.Decide.{dec_lt}
 use native.Mathlib.Omega.{arith}
-use mathlib.Core.List.{List, [], ◌∷◌}
+use mathlib.Core.List.{[], ◌∷◌}
 use mathlib.Core.Path.{◌≡◌, refl, ap}
-use lib.ListN.{length, get_or, take}
+use lib.ListN.{length, take}
 use lib.Seq.{take-take, get_or-take}
-use Rattle.meaning.specs.Table.{Dir, Table, Row, yes_row, no_row, is_row, isnot_row, any_row, all_row, go_row, stop_row, row_at, looks, look}
-use Rattle.counts.specs.Counts.{LookRow, LookRows}
+use Rattle.meaning.specs.Table.{Dir, Table, no_row, go_row, row_at, looks, look}
+use Rattle.counts.specs.Counts.{LookRow}
 use Rattle.counts.proofs.Laws.{row_there}
 
 -- and a `go` row counts

@@ -1,5 +1,5 @@
 -- The front of a text that is read from a position on: `starts_with` walked byte by byte, and a reader's answer taken apart.
-use mathlib.Core.Path.{◌≡◌, refl, ap, sym, subst, ◌∙◌}
+use mathlib.Core.Path.{◌≡◌, refl, ap, sym, ◌∙◌}
 use mathlib.Core.List.{List, [], ◌∷◌, ◌++◌}
 use mathlib.Core.Bool.{Bool, true, false, cond}
 use Prim.Native.Nat.{ℕ, ◌+◌, ◌<◌, ◌≤◌, ◌-◌}
@@ -10,9 +10,7 @@ use lib.Dec.{eqb}
 use lib.ListN.{length, drop, get_or, drop_of_length-le, length-drop, length-append}
 use lib.Seq.{drop-cons}
 use borrow.Author.Tests.{eq-eqb, ne_eqb, eqb-true}
-use Rattle.reader.specs.declared.parts.Part.{Part}
-use Rattle.reader.specs.declared.parts.Part.TheVariants.{Is, Wrong}
-use Rattle.reader.specs.Parts.{Taken, taken, nothing, Gives, starts_with}
+use Rattle.reader.specs.Parts.{starts_with}
 
 -- both lists have a byte at their front: the answer goes by the two, and then by the rest
 step : (s w : List ℕ) (i j : ℕ) → i < length s → j < length w

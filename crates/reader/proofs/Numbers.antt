@@ -22,6 +22,9 @@ digit_fits x e = at (leb 48 x) refl e
     at false h p = absurd (let z : ◌≡◌ {A = ℕ} 0 1 = cc in omega arith)
 
 module _ (x : ℕ) (s : List ℕ) where
+  pub first-digit : (x ≡ 48 → ⊥) → digit x ≡ true → first x s ≡ second (x - 48) s
+  first-digit n d = rw (d, ne_eqb x 48 n)
+
   pub second-digit : (n : ℕ) → digit x ≡ true → second n (x ∷ s) ≡ taken (n * 10 + (x - 48)) s
   second-digit n d = rw d
 

@@ -17,7 +17,7 @@ pub fn mark_used(
     top: u16,
 )
     requires linked { Linked c (running round.now first.now next.now) × Room c (running round.now first.now next.now) × (c ≤ length used.old) }
-    requires top_lt_c { (top < c) × (get_or round.now top 0 ≡ height) × (0 < height) × ((u : ℕ) → u < c → get_or used.old u 0 ≡ 0) }
+    requires from_top { (top < c) × (get_or round.now top 0 ≡ height) × (0 < height) × ((u : ℕ) → u < c → get_or used.old u 0 ≡ 0) }
     ensures { Used c (running round.now first.now next.now) top used.old used.new }
 {
     used[top as usize] = 1;

@@ -3,14 +3,11 @@ use Prim.Native.Nat.{ℕ, ◌+◌, ◌*◌, ◌/◌, ◌%◌, ◌<◌}
 use native.Mathlib.Omega.{arith}
 use native.Mathlib.Numerals.{add-one}
 use mathlib.Core.List.{List, [], ◌∷◌, ◌++◌, map-append}
-use mathlib.Core.Path.{◌≡◌, ap, sym, subst, ◌∙◌}
+use mathlib.Core.Path.{◌≡◌, ap}
 use lib.ListN.{length, take, set}
 use lib.Seq.{take-suc-set}
-use borrow.Author.Tests.{ne_eqb}
-use Rattle.sheets.specs.Lines.{Linkable, link_of, line_of, lines_in}
+use Rattle.sheets.specs.Lines.{link_of, line_of, lines_in}
 use Rattle.sheets.specs.declared.Line.{Line}
-use Rattle.sheets.specs.declared.Link.{Link}
-use Rattle.sheets.specs.declared.Link.TheVariants.{To}
 
 pub packed_line : (l : Line) (n x y : ℕ) → n ≡ l.name → n < 256 → (link_of x ≡ l.first) × (x < 1024) → (link_of y ≡ l.next) × (y < 1024) → line_of (n * 1048576 + x * 1024 + y) ≡ l
 unfolding line_of

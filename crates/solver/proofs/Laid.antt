@@ -6,6 +6,7 @@ use mathlib.Core.List.{List}
 use mathlib.Core.Path.{◌≡◌, sym, ◌∙◌}
 use lib.ListN.{get_or, length, set}
 use lib.Seq.{get_or-set_same, get_or-set_other}
+use Rattle.meaning.proofs.Sides.{sides}
 use Rattle.meaning.specs.Table.{first, next}
 use Rattle.meaning.specs.Outcome.{Slices, SameBelow, SamePlaces}
 use Rattle.rounds.specs.Kept.{lent, Kept, KeptAll}
@@ -47,6 +48,6 @@ lay_all c x old m =
     let u = lay c c x.used old.used (omega arith) m.in_used in
     record {
       slices = lent r.slice f.slice n.slice u.slice;
-      same = record { same_round = r.below; same_neighbours = λ s. elim s [ first ↦ f.below | next ↦ n.below ]; same_used = u.below };
+      same = record { same_round = r.below; same_neighbours = sides _ f.below n.below; same_used = u.below };
       kept = all_kept r.kept f.kept n.kept u.kept;
     }

@@ -4,6 +4,7 @@ use native.Mathlib.Decide.{dec_le}
 use mathlib.Core.List.{List}
 use mathlib.Core.Path.{refl}
 use lib.ListN.{length}
+use Rattle.meaning.proofs.Sides.{sides}
 use Rattle.meaning.specs.Table.{first, next, Table}
 use Rattle.meaning.specs.Code.{codes}
 use Rattle.meaning.specs.Outcome.{Slices, Accepted}
@@ -22,7 +23,7 @@ room_dec : (n : ℕ) (x : Slices) → Dec (Room n x)
 room_dec n x = at (dec_le n (length x.round)) (dec_le n (length x.firsts)) (dec_le n (length x.nexts)) (dec_le n (length x.used))
   where
     at : Dec (n ≤ length x.round) → Dec (n ≤ length x.firsts) → Dec (n ≤ length x.nexts) → Dec (n ≤ length x.used) → Dec (Room n x)
-    at (yes r) (yes f) (yes e) (yes u) = yes (record { in_round = r; in_recorded = λ s. elim s [ first ↦ f | next ↦ e ]; in_used = u })
+    at (yes r) (yes f) (yes e) (yes u) = yes (record { in_round = r; in_recorded = sides _ f e; in_used = u })
     at (no r) f e u = no (λ m. r m.in_round)
     at (yes r) (no f) e u = no (λ m. f (m.in_recorded first))
     at (yes r) (yes f) (no e) u = no (λ m. e (m.in_recorded next))

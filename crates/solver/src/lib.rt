@@ -1,3 +1,5 @@
+#![tactic(auto)]
+
 // The solver: a text and four lent slices in, the answer's five numbers out.
 mod tables;
 
@@ -18,8 +20,7 @@ pub struct Answer {
     pub place: u32,
 }
 
-#[unsafe(no_mangle)]
-pub extern "C" fn solve(
+pub fn solve(
     text: &[u8],
     round: &mut [u16],
     first: &mut [u16],

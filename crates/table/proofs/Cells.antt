@@ -1,14 +1,10 @@
 -- A row and the number that holds it; the rows of the first cells, one by one and with one more.
-use Prim.Native.Nat.{ℕ, zero, suc, ◌+◌, ◌*◌, ◌/◌, ◌%◌, ◌<◌, ◌≤◌}
+use Prim.Native.Nat.{ℕ, zero, suc, ◌+◌, ◌*◌, ◌/◌, ◌%◌, ◌<◌}
 use native.Mathlib.Omega.{arith}
-use native.Mathlib.Numerals.{add-one}
-use mathlib.Core.List.{List, [], ◌∷◌, ◌++◌, map, map-append}
-use mathlib.Core.Path.{◌≡◌, refl, ap, sym, ◌∙◌}
-use lib.ListN.{length, get_or, take, set, length-map, length-take, get_or-eq_default}
-use lib.Seq.{take-suc-set, get_or-take}
-use Rattle.table.specs.Rows.{row_of, row_by, rows_in}
-use Rattle.table.specs.declared.Row.{Row}
-use Rattle.table.specs.declared.Row.TheVariants.{No}
+use mathlib.Core.List.{List, [], ◌∷◌, map}
+use mathlib.Core.Path.{◌≡◌, refl}
+use lib.ListN.{length, get_or}
+use Rattle.table.specs.Rows.{row_of, row_by}
 
 pub packed_row : (k a b x y : ℕ) → k < 8 → (x ≡ a) × (x < 256) → (y ≡ b) × (y < 256) → row_of (k * 65536 + x * 256 + y) ≡ row_by k a b
 unfolding row_of
@@ -24,4 +20,3 @@ pub get_d_map_in : {A B : Type 0} (f : A → B) (l : List A) (i : ℕ) (d : A) (
 get_d_map_in f [] i d e h = absurd (omega arith)
 get_d_map_in f (x ∷ xs) zero d e h = refl
 get_d_map_in f (x ∷ xs) (suc i) d e h = get_d_map_in f xs i d e (omega arith)
-

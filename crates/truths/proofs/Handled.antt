@@ -14,8 +14,10 @@ use Rattle.truths.specs.Cells.{cell_at}
 use Rattle.truths.specs.Spots.{HoldsAt}
 use Rattle.truths.specs.Search.{Says, OnSheet, cell_line, cell_row, Marked, FoundAt, State, state, Searching, Grown, Handled, Only, Visitable, Fresh}
 use Rattle.truths.proofs.Says.{says_more, says_holds}
-use Rattle.truths.proofs.Rests.{low_line}
 use Rattle.truths.proofs.Putting.{with_cell, room_left, marked_here, put_grown, put_searching}
+
+pub low_line : {spots : List ℕ} {p : ℕ} → OnSheet spots p → p < line_limit
+low_line s = omega (arith, s.laid.few, s.inside)
 
 -- the line and the row of a cell are its own
 pub line_back : (q i c : ℕ) → i < row_limit → cell_at q i ≡ c → cell_line c ≡ q

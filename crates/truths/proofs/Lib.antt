@@ -2,7 +2,6 @@ pub mod Inside
 pub mod Stores
 pub mod Placing
 pub mod Says
-pub mod Rests
 pub mod Putting
 pub mod Handled
 pub mod Turns
