@@ -1,4 +1,4 @@
-//! Links `libsolver.a` and `libjudge.a`, which `rt staticlib` makes in the repository's
+//! Links `libsolver.a` and `libjudge.a`, which `archives.sh` makes in the repository's
 //! `target/staticlib`. Each holds its own copy of the crates that they share; nothing of those is
 //! seen from outside, so the two don't clash.
 
@@ -15,7 +15,7 @@ fn main() {
         let archive = folder.join(format!("lib{library}.a"));
         if !archive.exists() {
             println!(
-                "cargo:warning={} is not there: run `rt staticlib {library}`, \
+                "cargo:warning={} is not there: run `bash archives.sh` in host/, \
                  or set RATTLE_STATICLIB to its folder",
                 archive.display()
             );

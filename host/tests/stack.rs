@@ -1,6 +1,6 @@
 //! The programs with the stack of a handheld: 128 KiB, their own arrays included.
 //!
-//! They stand in the repository's `target/bin`, where `rt ci` and `rt check` put them.
+//! Each stands in its crate's `out`, where `rt ci` and `rt run` put it.
 
 mod common;
 
@@ -20,10 +20,10 @@ const SIGSEGV: i32 = 11;
 /// Runs a program with a stack of so many KiB, for a minute at most: a program that follows shared
 /// rows anew each time would not end.
 fn with_stack(kib: usize, program: &str, arguments: &[&str], input: &[u8]) -> Output {
-    let path = format!("{ROOT}/target/bin/{program}");
+    let path = format!("{ROOT}/crates/{program}/out/{program}");
     assert!(
         Path::new(&path).exists(),
-        "{path} is not there: run `rt check {program}`"
+        "{path} is not there: run `rt run` in crates/{program}"
     );
     let limited = format!("ulimit -t 60 && ulimit -s {kib} && exec \"$0\" \"$@\"");
     let mut shell = Command::new("sh");

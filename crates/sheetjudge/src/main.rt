@@ -1,43 +1,75 @@
+#![tactic(auto)]
+
 // Says where a rule holds on a sheet: `sheetjudge TABLE SHEET`, two file names.
-use libc::STDERR_FILENO;
 use sheets::Sheet;
+use std::env::FillError;
+use std::io::{BufWriter, Read, Write};
+use std::rt::{Env, Files};
+use std::{fs, io};
 use table::Table;
 
-// Opens the file that an argument names, or says why it can't and answers a negative number.
-fn open(i: usize) -> i32 {
-    let mut path = io::buffer();
-    let n = os::arg(i, &mut path);
-    if os::errno() != 0 {
-        os::fail(b"sheetjudge");
-        return -1;
-    }
-    let fd = os::open_read(&path[..n]);
-    if fd < 0 {
-        os::fail(&path[..n]);
-    }
-    fd
+// Whether the program was started with two arguments, neither more nor fewer.
+fn is_given_two(rt: &impl Env) -> bool {
+    let mut start = [0u8; 1];
+    is_there(rt.arg(2, &mut start)) && !is_there(rt.arg(3, &mut start))
 }
 
-fn judge_files(table: i32, sheet: i32) {
-    let mut rule = [0u8; Table::TEXT];
-    let n = io::read_full(table, &mut rule);
-    let mut lines = [0u8; Sheet::TEXT];
-    let m = io::read_full(sheet, &mut lines);
-    show::show_judged(&rule[..n], &lines[..m]);
+fn is_there(argument: Result<usize, FillError>) -> bool {
+    !matches!(argument, Err(FillError::NotPresent))
 }
 
-fn main() {
-    if os::arg_count() != 3 {
-        io::write_all(STDERR_FILENO, b"usage: sheetjudge TABLE SHEET\n");
-        return;
+// Opens the file that an argument names, or says why it can't.
+fn open<R: Env + Files + Eprint + Alloc>(rt: &R, i: usize) -> io::Result<Option<R::File>> {
+    let mut path = [0u8; 4096];
+    let Ok(n) = rt.arg(i, &mut path) else {
+        eprintln!(rt; "sheetjudge: File name too long")?;
+        return Ok(None);
+    };
+    let Ok(name) = str::from_utf8(&path[..n]) else {
+        eprintln!(rt; "sheetjudge: File name not in UTF-8")?;
+        return Ok(None);
+    };
+    open_named(rt, name)
+}
+
+fn open_named<R: Files + Eprint + Alloc>(rt: &R, name: &str) -> io::Result<Option<R::File>> {
+    match fs::open(rt, name) {
+        Ok(file) => Ok(Some(file)),
+        Err(error) => {
+            let text = format!(in rt.alloc(); "{error}")?;
+            eprintln!(rt; "{name}: {}", reason(text.as_str()))?;
+            Ok(None)
+        }
     }
-    let table = open(1);
-    if table < 0 {
-        return;
+}
+
+// The words of an error, without its number.
+fn reason(error: &str) -> &str {
+    match error.split_once(" (os error ") {
+        Some((words, _)) => words,
+        None => error,
     }
-    let sheet = open(2);
-    if sheet < 0 {
-        return;
+}
+
+fn judge_files<R: Print + Alloc, F: Read + Drop>(rt: &R, table: F, sheet: F) -> io::Result<()> {
+    let mut rule = Vec::new(rt.alloc());
+    table.take(Table::TEXT as u64).read_to_end(&mut rule)?;
+    let mut lines = Vec::new(rt.alloc());
+    sheet.take(Sheet::TEXT as u64).read_to_end(&mut lines)?;
+    let mut out = BufWriter::new(rt.alloc(), io::writer(rt))?;
+    show::show_judged(&mut out, &rule, &lines)?;
+    out.flush()
+}
+
+fn main(rt: HostRuntime) -> io::Result<()> {
+    if !is_given_two(&rt) {
+        return eprintln!(rt; "usage: sheetjudge TABLE SHEET");
     }
-    judge_files(table, sheet);
+    let Some(table) = open(&rt, 1)? else {
+        return Ok(());
+    };
+    let Some(sheet) = open(&rt, 2)? else {
+        return Ok(());
+    };
+    judge_files(&rt, table, sheet)
 }

@@ -1,57 +1,69 @@
+#![tactic(auto)]
+
 // What the programs print: `sheetsat` for a table (01, section 7), `sheetjudge` for a table and a sheet (02, C-11). Every number and every
 // verdict comes from the library; here it is only put into words.
-use libc::STDOUT_FILENO;
+use std::io;
+use std::io::Write;
 
-pub fn word(w: &[u8]) {
-    io::write_all(STDOUT_FILENO, w);
+pub fn word<W: Write>(out: &mut W, w: &[u8]) -> io::Result<()> {
+    out.write_all(w)
 }
 
-fn number(n: usize) {
-    io::print_decimal(STDOUT_FILENO, n as u64);
+fn number<W: Write>(out: &mut W, n: usize) -> io::Result<()> {
+    write!(out, "{n}")
 }
 
-fn field(n: usize) {
-    word(b"\t");
-    number(n);
+fn field<W: Write>(out: &mut W, n: usize) -> io::Result<()> {
+    word(out, b"\t")?;
+    number(out, n)
 }
 
 // A neighbour, or `-` where there is none.
-fn neighbour(u: u16) {
+fn neighbour<W: Write>(out: &mut W, u: u16) -> io::Result<()> {
     if u == 65535 {
-        word(b"\t-");
+        word(out, b"\t-")
     } else {
-        field(u as usize);
+        field(out, u as usize)
     }
 }
 
 // The line of code c, if it is used and of round r. `width` is how many codes a name has.
-fn line(round: &[u16], first: &[u16], next: &[u16], used: &[u8], width: usize, r: usize, c: usize) {
+fn line<W: Write>(
+    out: &mut W,
+    round: &[u16],
+    first: &[u16],
+    next: &[u16],
+    used: &[u8],
+    width: usize,
+    r: usize,
+    c: usize,
+) -> io::Result<()> {
     if round.len() <= c {
-        return;
+        return Ok(());
     }
     if first.len() <= c {
-        return;
+        return Ok(());
     }
     if next.len() <= c {
-        return;
+        return Ok(());
     }
     if used.len() <= c {
-        return;
+        return Ok(());
     }
     if width == 0 {
-        return;
+        return Ok(());
     }
     if used[c] == 0 {
-        return;
+        return Ok(());
     }
     if wide(round[c]) != r {
-        return;
+        return Ok(());
     }
-    number(c);
-    field(c / width);
-    neighbour(first[c]);
-    neighbour(next[c]);
-    word(b"\n");
+    number(out, c)?;
+    field(out, c / width)?;
+    neighbour(out, first[c])?;
+    neighbour(out, next[c])?;
+    word(out, b"\n")
 }
 
 fn wide(x: u16) -> usize {
@@ -59,55 +71,88 @@ fn wide(x: u16) -> usize {
 }
 
 // The used codes of round r, by code.
-fn lines(round: &[u16], first: &[u16], next: &[u16], used: &[u8], width: usize, r: usize) {
+fn lines<W: Write>(
+    out: &mut W,
+    round: &[u16],
+    first: &[u16],
+    next: &[u16],
+    used: &[u8],
+    width: usize,
+    r: usize,
+) -> io::Result<()> {
     for c in 0..round.len() {
-        line(round, first, next, used, width, r, c);
+        line(out, round, first, next, used, width, r, c)?;
     }
+    Ok(())
 }
 
 // One line for each used code, by round and then by code.
-fn listing(round: &[u16], first: &[u16], next: &[u16], used: &[u8], width: usize, height: usize) {
+fn listing<W: Write>(
+    out: &mut W,
+    round: &[u16],
+    first: &[u16],
+    next: &[u16],
+    used: &[u8],
+    width: usize,
+    height: usize,
+) -> io::Result<()> {
     for r in 0..height {
-        lines(round, first, next, used, width, r + 1);
+        lines(out, round, first, next, used, width, r + 1)?;
     }
+    Ok(())
 }
 
 // Solves the text in the memory that is lent, and prints the answer.
-pub fn show(text: &[u8], round: &mut [u16], first: &mut [u16], next: &mut [u16], used: &mut [u8]) {
+pub fn show<W: Write>(
+    out: &mut W,
+    text: &[u8],
+    round: &mut [u16],
+    first: &mut [u16],
+    next: &mut [u16],
+    used: &mut [u8],
+) -> io::Result<()> {
     let a = solver::solve(text, round, first, next, used);
     let verdict = a.verdict;
     let height = a.height as usize;
     match verdict {
         1 => {
-            word(b"sat");
-            field(height);
-            field(a.top as usize);
-            word(b"\n");
-            listing(round, first, next, used, solver::name_width(text), height);
+            word(out, b"sat")?;
+            field(out, height)?;
+            field(out, a.top as usize)?;
+            word(out, b"\n")?;
+            listing(
+                out,
+                round,
+                first,
+                next,
+                used,
+                solver::name_width(text),
+                height,
+            )
         }
         2 => {
-            word(b"unsat");
-            field(height);
-            word(b"\n");
+            word(out, b"unsat")?;
+            field(out, height)?;
+            word(out, b"\n")
         }
-        _ => refused(a.refusal as usize, a.place as usize),
+        _ => refused(out, a.refusal as usize, a.place as usize),
     }
 }
 
-fn refused(number: usize, place: usize) {
-    word(b"refused");
-    field(number);
-    field(place);
-    word(b"\n");
+fn refused<W: Write>(out: &mut W, number: usize, place: usize) -> io::Result<()> {
+    word(out, b"refused")?;
+    field(out, number)?;
+    field(out, place)?;
+    word(out, b"\n")
 }
 
 // Judges the sheet by the table, and prints a line for each of its lines.
-pub fn show_judged(table: &[u8], sheet: &[u8]) {
-    let mut out = [0u8; judge::OUTPUT];
-    let j = judge::judge(table, sheet, &mut out);
+pub fn show_judged<W: Write>(out: &mut W, table: &[u8], sheet: &[u8]) -> io::Result<()> {
+    let mut bytes = [0u8; judge::OUTPUT];
+    let j = judge::judge(table, sheet, &mut bytes);
     if j.refusal != 0 {
-        return refused(j.refusal as usize, j.place as usize);
+        return refused(out, j.refusal as usize, j.place as usize);
     }
-    let n = io::count(j.written as isize, &out);
-    word(&out[..n]);
+    let n = (j.written as usize).min(bytes.len());
+    word(out, &bytes[..n])
 }
