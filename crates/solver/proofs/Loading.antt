@@ -52,7 +52,3 @@ module _ {text : List ℕ} {l : Loaded} (a : Answered true text l) where
         of_table = λ {rows} y. let g : rows_of l.table ≡ rows = (let z = (one_answer text).unique x y in cc) in f ∙ ap (λ (z : List Row). 16 * 2 ^ looks (table z)) g;
         of_none = λ y. absurd (let z = (one_answer text).unique x y in let v : ◌≡◌ {A = ℕ} 0 1 = cc in omega arith);
       }
-
--- the cells that are lent are all there
-pub rows_few : {t : Table} → ReadyTable t → t.rows ≤ 48
-rows_few {t} r = omega (arith, r.count, few r.ready, length-map (take t.rows t.cells) row_of)
