@@ -3,7 +3,7 @@
 // The reference tables of 01, section 8, and the edges of the text, each shown as `sheetsat` shows it.
 use show::{show, word};
 use std::io;
-use std::io::{BufWriter, Write};
+use std::io::Write;
 use table::Table;
 
 // In arrays of the size that `sheetsat` has.
@@ -161,13 +161,12 @@ fn loops<W: Write>(out: &mut W) -> io::Result<()> {
 }
 
 fn main(rt: HostRuntime) -> io::Result<()> {
-    let mut out = BufWriter::new(rt.alloc(), rt.stdout())?;
+    let mut out = rt.stdout();
     proved_cases(&mut out)?;
     refused_cases(&mut out)?;
     sizes(&mut out)?;
     forms(&mut out)?;
     numbers(&mut out)?;
     lengths(&mut out)?;
-    loops(&mut out)?;
-    out.flush()
+    loops(&mut out)
 }

@@ -3,7 +3,7 @@
 // Sheets held against tables, as `sheetjudge` shows them: 02, C-11. The cases are worked out by hand.
 use show::{show_judged, word};
 use std::io;
-use std::io::{BufWriter, Write};
+use std::io::Write;
 
 fn one<W: Write>(out: &mut W, label: &[u8], table: &[u8], sheet: &[u8]) -> io::Result<()> {
     word(out, label)?;
@@ -95,9 +95,8 @@ fn refused_by_tree<W: Write>(out: &mut W) -> io::Result<()> {
 }
 
 fn main(rt: HostRuntime) -> io::Result<()> {
-    let mut out = BufWriter::new(rt.alloc(), rt.stdout())?;
+    let mut out = rt.stdout();
     truths(&mut out)?;
     refused_by_form(&mut out)?;
-    refused_by_tree(&mut out)?;
-    out.flush()
+    refused_by_tree(&mut out)
 }

@@ -3,7 +3,7 @@
 // Says where a rule holds on a sheet: `sheetjudge TABLE SHEET`, two file names.
 use sheets::Sheet;
 use std::env::FillError;
-use std::io::{BufWriter, Read, Write};
+use std::io::Read;
 use std::rt::{Env, Files};
 use std::{fs, io};
 use table::Table;
@@ -51,14 +51,12 @@ fn reason(error: &str) -> &str {
     }
 }
 
-fn judge_files<R: Print + Alloc, F: Read + Drop>(rt: &R, table: F, sheet: F) -> io::Result<()> {
-    let mut rule = Vec::new(rt.alloc());
-    table.take(Table::TEXT as u64).read_to_end(&mut rule)?;
-    let mut lines = Vec::new(rt.alloc());
-    sheet.take(Sheet::TEXT as u64).read_to_end(&mut lines)?;
-    let mut out = BufWriter::new(rt.alloc(), io::writer(rt))?;
-    show::show_judged(&mut out, &rule, &lines)?;
-    out.flush()
+fn judge_files<R: Print, F: Read + Drop>(rt: &R, mut table: F, mut sheet: F) -> io::Result<()> {
+    let mut rule = [0u8; Table::TEXT];
+    let n = show::read_full(&mut table, &mut rule)?;
+    let mut lines = [0u8; Sheet::TEXT];
+    let m = show::read_full(&mut sheet, &mut lines)?;
+    show::show_judged(&mut io::writer(rt), &rule[..n], &lines[..m])
 }
 
 fn main(rt: HostRuntime) -> io::Result<()> {

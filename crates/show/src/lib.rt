@@ -1,9 +1,11 @@
 #![tactic(auto)]
 
-// What the programs print: `sheetsat` for a table (01, section 7), `sheetjudge` for a table and a sheet (02, C-11). Every number and every
+// What the programs read and print: `sheetsat` for a table (01, section 7), `sheetjudge` for a table and a sheet (02, C-11). Every number and every
 // verdict comes from the library; here it is only put into words.
+ghost use Rattle.std.specs.Prelude.{◌≤◌, IfOk, length};
+
 use std::io;
-use std::io::Write;
+use std::io::{Read, Write};
 
 pub fn word<W: Write>(out: &mut W, w: &[u8]) -> io::Result<()> {
     out.write_all(w)
@@ -155,4 +157,19 @@ pub fn show_judged<W: Write>(out: &mut W, table: &[u8], sheet: &[u8]) -> io::Res
     }
     let n = (j.written as usize).min(bytes.len());
     word(out, &bytes[..n])
+}
+
+// Reads until the text is full or the input ends, and answers how many bytes it read. Each read but the last gives a byte at least.
+pub fn read_full<R: Read>(input: &mut R, text: &mut [u8]) -> io::Result<usize>
+    ensures { IfOk result (λ n. n ≤ length text.new) }
+{
+    let mut done = 0;
+    for _ in 0..text.len() {
+        let n = input.read(&mut text[done..])?;
+        if n == 0 {
+            break;
+        }
+        done += n;
+    }
+    Ok(done)
 }
