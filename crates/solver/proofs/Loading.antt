@@ -4,12 +4,10 @@ use native.Mathlib.Omega.{arith}
 use mathlib.Core.Bool.{true}
 use mathlib.Core.List.{List}
 use mathlib.Core.Path.{◌≡◌, refl, ◌∙◌, ap}
-use lib.ListN.{take, length-map}
 use Rattle.meaning.specs.Table.{looks}
 use Rattle.meaning.specs.Outcome.{Slices}
-use Rattle.table.specs.Rows.{row_of, rows_of, table_of}
+use Rattle.table.specs.Rows.{rows_of, table_of}
 use Rattle.table.specs.declared.Row.{Row}
-use Rattle.table.specs.declared.Table.{Table}
 use Rattle.intake.specs.Loading.{Answered, table}
 use Rattle.intake.specs.declared.Loaded.{Loaded}
 use Rattle.intake.proofs.Given.{refusal, given}
@@ -18,7 +16,6 @@ use Rattle.solver.specs.Ready.{ReadyTable}
 use Rattle.solver.specs.Solved.{Solves, Replies, not_accepted, accepted, NameWidth}
 use Rattle.solver.specs.declared.tables.Reply.{Reply}
 use Rattle.solver.specs.declared.tables.Reply.TheVariants.{Refused}
-use Rattle.solver.proofs.Answering.{few}
 
 module _ {text : List ℕ} {l : Loaded} (a : Answered true text l) where
   pub small_refusal : (l.refusal ≡ 0 → ⊥) → (l.refusal < 8) × (l.place ≤ 48)
