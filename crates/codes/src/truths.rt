@@ -10,7 +10,7 @@ use crate::{has_bit, has_flag, name_of, wide};
 use table::{Row, Table};
 
 // What settles a row in a code: it is known at once, or by two other rows.
-#[derive(Drop)]
+#[derive(Clone, Copy)]
 pub enum Step {
     Known(bool),
     Either(usize, usize),

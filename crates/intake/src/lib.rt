@@ -10,7 +10,7 @@ use loops::Checked;
 use table::Table;
 
 // A table, with refusal 0; or a refusal and its place, with no row. In the order every row comes after those that it names as `any` or `all`.
-#[derive(Drop)]
+#[derive(Clone, Copy)]
 pub struct Loaded {
     pub refusal: usize,
     pub place: usize,

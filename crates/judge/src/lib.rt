@@ -13,7 +13,7 @@ use table::Table;
 
 // What crosses to another language: how many bytes were written, or a refusal and its place.
 #[repr(C)]
-#[derive(Drop)]
+#[derive(Clone, Copy)]
 pub struct Judged {
     pub written: u32,
     pub refusal: u32,

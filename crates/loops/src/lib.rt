@@ -15,7 +15,7 @@ use rules::PAIRS;
 use table::Table;
 
 // Refusals 5 and 6 come with their row.
-#[derive(Drop)]
+#[derive(Clone, Copy)]
 pub enum Checked {
     Fine,
     Missing(usize),
@@ -24,7 +24,7 @@ pub enum Checked {
 }
 
 // The order comes with the verdict, since both are read off the same pairs.
-#[derive(Drop)]
+#[derive(Clone, Copy)]
 pub struct Judgement {
     pub verdict: Checked,
     pub order: [u8; Table::ROWS],

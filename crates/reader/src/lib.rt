@@ -12,7 +12,7 @@ mod lines;
 pub mod parts;
 
 // Refusal 0 and the table, or the refusal's number and place and an empty table.
-#[derive(Drop)]
+#[derive(Clone, Copy)]
 pub struct Read {
     pub refusal: usize,
     pub place: usize,

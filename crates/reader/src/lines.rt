@@ -11,7 +11,7 @@ use crate::parts::Part;
 use table::{Row, Table};
 
 // A row, and where the next line begins.
-#[derive(Drop)]
+#[derive(Clone, Copy)]
 pub enum Line {
     Row(Row, usize),
     Wrong,

@@ -3,7 +3,7 @@ ghost use Rattle.std.specs.Prelude.{◌≡◌, ◌<◌, ◌≤◌, length, drop}
 ghost use Rattle.reader.specs.Parts.{Gives, byte_in, digit, second, number_in, field_in, starts_with};
 
 // A kind, a field or a fixed byte as a number, and where the text goes on.
-#[derive(Drop)]
+#[derive(Clone, Copy)]
 pub enum Part {
     Is(u8, usize),
     Wrong,

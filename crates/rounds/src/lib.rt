@@ -25,14 +25,14 @@ pub const NONE: u16 = 65535;
 const KEPT: usize = 16384;
 
 // The height and the top code, or the rounds that entered a code.
-#[derive(Drop)]
+#[derive(Clone, Copy)]
 pub enum Found {
     Sat(u16, u16),
     Unsat(u16),
 }
 
 // The smallest good code of a round, if there is one.
-#[derive(Drop)]
+#[derive(Clone, Copy)]
 enum Top {
     At(u16),
     Nowhere,

@@ -62,7 +62,7 @@ fn neighbour(
 }
 
 // What is recorded of a code at one side when it is entered, or that it cannot be: the side is flagged and there is nothing to take.
-#[derive(Drop)]
+#[derive(Clone, Copy)]
 pub enum Beside {
     Settled(u16),
     Stop,

@@ -34,7 +34,7 @@ pub record FirstFaulty (lines : List Line) (i : ℕ) : Type 0 where
   pub faulty : i < length lines → Faulty lines i
   pub none_before : (k : ℕ) → k < i → Faulty lines k → ⊥
 
--- First 9, then 10; what passes is accepted: `lines-read` of its lines.
+-- First 9, then 10; what passes is accepted: `lines_read` of its lines.
 pub data Loads (text : List ℕ) : Reading → Type 0 where
   unread : {n p : ℕ} → Reads text (refused n p) → Loads text (refused n p)
   faulty : {lines : List Line} {i : ℕ} → Reads text (lines_read lines) → SmallestFaulty lines i → Loads text (refused 10 i)

@@ -10,13 +10,13 @@ ghost use Rattle.sheets.specs.Links.{Loaded};
 ghost use Rattle.sheets.specs.Lines.{line_of, link_of, Linkable, Right, lines_of, Extended};
 
 // What a field names: a line, or none, which is written `-`.
-#[derive(Drop)]
+#[derive(Clone, Copy)]
 pub enum Link {
     Dash,
     To(u16),
 }
 
-#[derive(Drop)]
+#[derive(Clone, Copy)]
 pub struct Line {
     pub name: u8,
     pub first: Link,
@@ -63,7 +63,7 @@ fn link_of(field: u16) -> Link
     Link::To(field)
 }
 
-#[derive(Drop)]
+#[derive(Clone, Copy)]
 pub struct Sheet {
     pub cells: [u32; Sheet::LINES],
     pub lines: usize,
@@ -102,7 +102,7 @@ impl Sheet {
 }
 
 // Refusal 0 and the sheet, or the refusal's number and place and an empty sheet.
-#[derive(Drop)]
+#[derive(Clone, Copy)]
 pub struct Read {
     pub refusal: usize,
     pub place: usize,

@@ -9,14 +9,14 @@ use reader::parts::Part;
 use table::Table;
 
 // A link, and where the text goes on.
-#[derive(Drop)]
+#[derive(Clone, Copy)]
 pub enum Field {
     Is(Link, usize),
     Wrong,
 }
 
 // A line, and where the next one begins.
-#[derive(Drop)]
+#[derive(Clone, Copy)]
 pub enum Found {
     Is(Line, usize),
     Wrong,

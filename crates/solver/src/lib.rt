@@ -11,7 +11,7 @@ use tables::Reply;
 
 // What crosses to another language: verdict 0 refused, 1 SAT, 2 UNSAT; with UNSAT `height` holds the rounds.
 #[repr(C)]
-#[derive(Drop)]
+#[derive(Clone, Copy)]
 pub struct Answer {
     pub verdict: u32,
     pub height: u32,

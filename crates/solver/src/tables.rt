@@ -15,7 +15,7 @@ use rounds::Found;
 use table::Table;
 
 // The answer, by cases: height and top; rounds; number and place.
-#[derive(Drop)]
+#[derive(Clone, Copy)]
 pub enum Reply {
     Sat(u32, u32),
     Unsat(u32),

@@ -4,7 +4,7 @@ ghost use Rattle.std.specs.Prelude.{◌≡◌, [], ◌<◌};
 ghost use Rattle.table.specs.Rows.{row_of, row_by, rows_of, row_in, Extended};
 
 // A row as it is written: numbers are kept as they stand in the text, also a name or a direction that does not exist.
-#[derive(Clone, Copy, Drop)]
+#[derive(Clone, Copy)]
 pub enum Row {
     Yes,
     No,
@@ -64,7 +64,7 @@ pub fn row_by(kind: u32, a: u8, b: u8) -> Row
     }
 }
 
-#[derive(Clone, Copy, Drop)]
+#[derive(Clone, Copy)]
 pub struct Table {
     pub cells: [u32; Table::ROWS],
     pub rows: usize,
