@@ -1,3 +1,4 @@
+pub mod Cells
 pub mod Search
 pub mod Counting
 pub mod Told

@@ -5,7 +5,7 @@ use mathlib.Core.List.{List}
 use mathlib.Core.Path.{◌≡◌}
 use lib.ListN.{length, drop, length-map, get_or, drop_of_length-le}
 use lib.Seq.{drop-cons}
-use Rattle.table.proofs.Cells.{get_d_map_in}
+use Rattle.std.proofs.lemmas.List.{get_or-map}
 use Rattle.sheets.specs.Lines.{blank, line_at, line_of, lines_in}
 use Rattle.sheets.specs.Counting.{names_in, times_named}
 
@@ -15,7 +15,7 @@ module _ (cells : List ℕ) where
 
   -- the line that a cell holds
   pub line_at-lines_in : (i : ℕ) → i < length cells → line_at (lines_in cells) i ≡ line_of (get_or cells i 0)
-  line_at-lines_in i h = get_d_map_in line_of cells i 0 blank h
+  line_at-lines_in i h = get_or-map line_of cells i 0 blank h
 
   -- a count that has passed k lines
   module _ (j k : ℕ) where

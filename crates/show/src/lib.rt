@@ -2,7 +2,8 @@
 
 // What the programs read and print: `sheetsat` for a table (01, section 7), `sheetjudge` for a table and a sheet (02, C-11). Every number and every
 // verdict comes from the library; here it is only put into words.
-ghost use Rattle.std.specs.Prelude.{◌≤◌, IfOk, length};
+ghost use Rattle.std.specs.Prelude.{◌<◌, ◌≤◌, IfOk, length, take};
+ghost use Rattle.std.specs.Io.KnownBytes.{Consumes, IsAtEnd};
 
 use std::io;
 use std::io::{Read, Write};
@@ -159,15 +160,17 @@ pub fn show_judged<W: Write>(out: &mut W, table: &[u8], sheet: &[u8]) -> io::Res
     word(out, &bytes[..n])
 }
 
-// Reads until the text is full or the input ends, and answers how many bytes it read. Each read but the last gives a byte at least.
+// Reads until the text is full or the input ends, and answers how many bytes it read.
 pub fn read_full<R: Read>(input: &mut R, text: &mut [u8]) -> io::Result<usize>
-    ensures { IfOk result (λ n. n ≤ length text.new) }
+    ensures within { IfOk result (λ n. n ≤ length text.new) }
+    ensures bytes { IfOk result (λ n. Consumes (R.remaining input.old) (R.remaining input.new) (take n text.new)) }
+    ensures end { IfOk result (λ n. n < length text.new → IsAtEnd (R.remaining input.new)) }
 {
     let mut done = 0;
-    for _ in 0..text.len() {
+    while done < text.len() {
         let n = input.read(&mut text[done..])?;
         if n == 0 {
-            break;
+            return Ok(done);
         }
         done += n;
     }

@@ -1,8 +1,9 @@
-use Rattle.std.proofs.Common.{◌≡◌, ◌<◌, ◌≤◌, ◌∙◌, sym, true, false, length, arith}
+use Rattle.std.proofs.Common.{◌<◌, ◌≤◌, length, arith}
 use Rattle.meaning.specs.Table.{row_limit}
 use Rattle.table.specs.Rows.{dir_of, table_in}
-use Rattle.counts.proofs.Laws.{table_long, row_at-table_in}
-use Rattle.loops.specs.Closing.{turns_at}
+use Rattle.counts.proofs.Laws.{table_long}
+use Rattle.loops.specs.Closing.{turns, turns_at}
+use Rattle.loops.proofs.Cells.{inside_table, told_of_row}
 use Rattle.loops.proofs.Search.{first_next, some_yes, some_no}
 use Rattle.loops.proofs.rules.turned.Goals as goal
 
@@ -12,10 +13,8 @@ returns-then-turned_at c =
     let cells = a.cells.now in
     let l = c.loop-l in
     let s : l.l < length cells = omega arith in
-    let g : l.l < length (table_in cells) = omega (arith, table_long cells) in
-    let t = turns_at row_limit (table_in cells) a.m.now (dir_of a.d) a.k a.j in
-    let e : t l.l ≡ true = rw (row_at-table_in cells l.l s) (sym c.turned_at.ensures ∙ c.if-turned_at.true) in
-    some_yes t (length (table_in cells)) l.l l.invariant g e
+    some_yes (turns_at row_limit (table_in cells) a.m.now (dir_of a.d) a.k a.j) (length (table_in cells)) l.l l.invariant (inside_table cells l.l s)
+    (told_of_row cells l.l s (turns row_limit a.m.now (dir_of a.d) a.k a.j l.l) c.turned_at.ensures c.if-turned_at.true)
 
 pub loop-l-preserved : goal.loop-l-preserved
 loop-l-preserved c =
@@ -23,10 +22,8 @@ loop-l-preserved c =
     let cells = a.cells.now in
     let l = c.loop-l in
     let s : l.l < length cells = omega arith in
-    let g : l.l < length (table_in cells) = omega (arith, table_long cells) in
-    let t = turns_at row_limit (table_in cells) a.m.now (dir_of a.d) a.k a.j in
-    let e : t l.l ≡ false = rw (row_at-table_in cells l.l s) (sym c.turned_at.ensures ∙ c.if-turned_at.false) in
-    first_next t (length (table_in cells)) l.l l.invariant g e
+    first_next (turns_at row_limit (table_in cells) a.m.now (dir_of a.d) a.k a.j) (length (table_in cells)) l.l l.invariant (inside_table cells l.l s)
+    (told_of_row cells l.l s (turns row_limit a.m.now (dir_of a.d) a.k a.j l.l) c.turned_at.ensures c.if-turned_at.false)
 
 pub returns : goal.returns
 returns c =

@@ -13,14 +13,14 @@ seed-tail-requires c =
 pub loop-head-init : goal.loop-head-init
 loop-head-init c = (omega arith, c.seed-tail.ensures.searching, all_seeded c.requires.2 c.seed-tail.ensures)
 
-pub offset_bounds-queue-head : goal.offset_bounds-queue-head
-offset_bounds-queue-head c = let m = tail_most c.loop-head.invariant.1 in omega (arith, c.loop-head-test.true)
-
 pub bounds-queue-head : goal.bounds-queue-head
-bounds-queue-head c = let m = tail_most c.loop-head.invariant.1 in omega (arith, c.loop-head-test.true)
+bounds-queue-head c = omega (arith, tail_most c.loop-head.invariant.1, c.loop-head-test.true)
+
+pub offset_bounds-queue-head : goal.offset_bounds-queue-head
+offset_bounds-queue-head c = omega (arith, bounds-queue-head c)
 
 pub loop-head-smaller : goal.loop-head-smaller
-loop-head-smaller c = let m = tail_most c.loop-head.invariant.1 in omega (arith, c.loop-head-test.true)
+loop-head-smaller c = omega (arith, tail_most c.loop-head.invariant.1, c.loop-head-test.true)
 
 pub hand_on-tail-requires : goal.hand_on-tail-requires
 hand_on-tail-requires c =
