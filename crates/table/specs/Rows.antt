@@ -1,31 +1,26 @@
--- A table's rows: as its cells hold them, as they are written, and as `meaning` has them.
-use Rattle.std.specs.Prelude.{ℕ, ◌+◌, ◌/◌, ◌%◌, ◌<◌, ◌≤◌, cond, List, [], ◌∷◌, ◌++◌, map, ◌≡◌, eqb, get_or, take}
+-- A table's rows: as they are written, and as `meaning` has them.
+use Rattle.std.specs.Prelude.{ℕ, ◌+◌, ◌<◌, ◌≤◌, cond, List, [], ◌∷◌, ◌++◌, map, ◌≡◌, eqb, get_or, take}
 use Rattle.meaning.specs.Table as M
 use Rattle.table.specs.declared.Table.{Table}
+use Rattle.table.specs.declared.Kind.{Kind}
+use Rattle.table.specs.declared.Kind.TheVariants as K
 use Rattle.table.specs.declared.Row.{Row}
 use Rattle.table.specs.declared.Row.TheVariants.{Yes, No, Is, Isnot, Any, All, Go, Stop}
 
 -- The row of a kind with two fields.
-abbrev pub row_by : ℕ → ℕ → ℕ → Row
-row_by kind a b =
-    cond (eqb kind 0) Yes
-    (cond (eqb kind 1) No
-    (cond (eqb kind 2) (Is a)
-    (cond (eqb kind 3) (Isnot a)
-    (cond (eqb kind 4) (Any a b)
-    (cond (eqb kind 5) (All a b)
-    (cond (eqb kind 6) (Go a b) (Stop a)))))))
+abbrev pub row_by : Kind → ℕ → ℕ → Row
+row_by K.Yes a b = Yes
+row_by K.No a b = No
+row_by K.Is a b = Is a
+row_by K.Isnot a b = Isnot a
+row_by K.Any a b = Any a b
+row_by K.All a b = All a b
+row_by K.Go a b = Go a b
+row_by K.Stop a b = Stop a
 
--- A row in one number: the kind, and two fields below 256.
-unfoldable pub row_of : ℕ → Row
-row_of cell = row_by (cell / 65536) (cell / 256 % 256) (cell % 256)
-
--- The rows that a slice of cells holds, and those of a table.
-abbrev pub rows_in : List ℕ → List Row
-rows_in cells = map row_of cells
-
+-- The rows of a table: what it holds beyond their count is none.
 abbrev pub rows_of : Table → List Row
-rows_of t = rows_in (take t.rows t.cells)
+rows_of t = take t.rows.len t.rows.items
 
 -- Row i; beyond the last row it is `no`.
 abbrev pub row_in : Table → ℕ → Row
@@ -33,8 +28,8 @@ row_in t i = get_or (rows_of t) i No
 
 -- The table with one row more, or as it is where it is full.
 pub record Extended (t : Table) (row : Row) (r : Table) : Type 0 where
-  pub more : t.rows < 48 → (rows_of r ≡ rows_of t ++ (row ∷ [])) × (r.rows ≡ t.rows + 1)
-  pub full : 48 ≤ t.rows → r ≡ t
+  pub more : t.rows.len < 48 → (rows_of r ≡ rows_of t ++ (row ∷ [])) × (r.rows.len ≡ t.rows.len + 1)
+  pub full : 48 ≤ t.rows.len → r ≡ t
 
 -- 01, section 2: directions 1 to 4.
 abbrev pub dir_of : ℕ → M.Dir
@@ -51,9 +46,9 @@ meant (All i j) = M.all_row i j
 meant (Go d i) = M.go_row (dir_of d) i
 meant (Stop d) = M.stop_row (dir_of d)
 
--- The table of 01 that a slice of cells, or a table, stands for.
-abbrev pub table_in : List ℕ → M.Table
-table_in cells = map meant (rows_in cells)
+-- The table of 01 that rows, or a table, stand for.
+abbrev pub table_in : List Row → M.Table
+table_in rows = map meant rows
 
 abbrev pub table_of : Table → M.Table
-table_of t = table_in (take t.rows t.cells)
+table_of t = table_in (rows_of t)

@@ -1,10 +1,30 @@
 #![tactic(auto)]
 
+// A table's rows, and what all who read, search or judge say of a table.
+pub mod at_most;
+pub mod direction;
+pub mod refusal;
+
 ghost use Rattle.std.specs.Prelude.{◌≡◌, [], ◌<◌};
-ghost use Rattle.table.specs.Rows.{row_of, row_by, rows_of, row_in, Extended};
+ghost use Rattle.table.specs.Rows.{row_by, rows_of, row_in, Extended};
+
+use at_most::AtMost;
+
+// What a row says, without the numbers that follow its word.
+#[derive(Clone, Copy, PartialEq, Eq)]
+pub enum Kind {
+    Yes,
+    No,
+    Is,
+    Isnot,
+    Any,
+    All,
+    Go,
+    Stop,
+}
 
 // A row as it is written: numbers are kept as they stand in the text, also a name or a direction that does not exist.
-#[derive(Clone, Copy)]
+#[derive(Clone, Copy, PartialEq, Eq)]
 pub enum Row {
     Yes,
     No,
@@ -16,58 +36,27 @@ pub enum Row {
     Stop(u8),
 }
 
-// A row takes one number, so that a table is lent to the search as one slice and is never copied there.
-#[tactic(auto, unfolding(crate::specs::Rows::row_of))]
-pub fn cell_of(row: Row) -> u32
-    ensures { row_of result ≡ row }
-{
-    match row {
-        Row::Yes => 0,
-        Row::No => 65536,
-        Row::Is(n) => packed(2, n, 0),
-        Row::Isnot(n) => packed(3, n, 0),
-        Row::Any(i, j) => packed(4, i, j),
-        Row::All(i, j) => packed(5, i, j),
-        Row::Go(d, i) => packed(6, d, i),
-        Row::Stop(d) => packed(7, d, 0),
-    }
-}
-
-#[tactic(auto, using(crate::proofs::Cells::packed_row))]
-fn packed(kind: u32, a: u8, b: u8) -> u32
-    requires { kind < 8 }
-    ensures { row_of result ≡ row_by kind a b }
-{
-    kind * 65536 + wide(a) * 256 + wide(b)
-}
-
-#[tactic(auto, unfolding(crate::specs::Rows::row_of))]
-pub fn row_of(cell: u32) -> Row
-    ensures { result ≡ row_of cell }
-{
-    row_by(cell / 65536, (cell / 256 % 256) as u8, (cell % 256) as u8)
-}
-
-// The row of a kind, by the kind's number, with what it needs of two fields.
-pub fn row_by(kind: u32, a: u8, b: u8) -> Row
-    ensures { result ≡ row_by kind a b }
-{
-    match kind {
-        0 => Row::Yes,
-        1 => Row::No,
-        2 => Row::Is(a),
-        3 => Row::Isnot(a),
-        4 => Row::Any(a, b),
-        5 => Row::All(a, b),
-        6 => Row::Go(a, b),
-        _ => Row::Stop(a),
+impl Row {
+    // The row of a kind, with what it needs of two fields.
+    pub fn of(kind: Kind, a: u8, b: u8) -> Row
+        ensures { result ≡ row_by kind a b }
+    {
+        match kind {
+            Kind::Yes => Row::Yes,
+            Kind::No => Row::No,
+            Kind::Is => Row::Is(a),
+            Kind::Isnot => Row::Isnot(a),
+            Kind::Any => Row::Any(a, b),
+            Kind::All => Row::All(a, b),
+            Kind::Go => Row::Go(a, b),
+            Kind::Stop => Row::Stop(a),
+        }
     }
 }
 
 #[derive(Clone, Copy)]
 pub struct Table {
-    pub cells: [u32; Table::ROWS],
-    pub rows: usize,
+    pub rows: AtMost<Row, { Table::ROWS }>,
 }
 
 impl Table {
@@ -88,11 +77,10 @@ impl Table {
     pub const TEXT: usize = 512;
 
     pub fn new() -> Table
-        ensures { (result.rows ≡ 0) × (rows_of result ≡ []) }
+        ensures { (result.rows.len ≡ 0) × (rows_of result ≡ []) }
     {
         Table {
-            cells: [0u32; Table::ROWS],
-            rows: 0,
+            rows: AtMost::new(Row::No),
         }
     }
 
@@ -100,32 +88,21 @@ impl Table {
     pub fn with_row(self, row: Row) -> Table
         ensures { Extended self row result }
     {
-        let at = self.rows;
-        if Self::ROWS <= at {
-            return self;
+        Table {
+            rows: self.rows.with(row),
         }
-        let mut t = self;
-        t.cells[at] = cell_of(row);
-        t.rows = at + 1;
-        t
     }
 
     // Row i; beyond the last row it is `no`.
     pub fn row(self, i: usize) -> Row
         ensures { result ≡ row_in self i }
     {
-        if self.rows <= i {
-            return Row::No;
-        }
-        if Self::ROWS <= i {
-            return Row::No;
-        }
-        row_of(self.cells[i])
+        self.rows().get(i).copied().unwrap_or(Row::No)
     }
-}
 
-fn wide(x: u8) -> u32
-    ensures { (result ≡ x) × (result < 256) }
-{
-    x as u32
+    pub fn rows(&self) -> &[Row]
+        ensures { result.now ≡ rows_of self.now }
+    {
+        self.rows.as_slice()
+    }
 }
