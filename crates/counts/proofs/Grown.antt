@@ -2,15 +2,17 @@
 use Prim.Native.Nat.{ℕ, zero, suc, ◌+◌, ◌<◌}
 use native.Mathlib.Omega.{arith}
 use native.Mathlib.Nat.{eq-or-lt_of_le}
+use mathlib.Core.Bool.{true, false}
 use mathlib.Core.List.{List, [], ◌∷◌, ◌++◌}
 use mathlib.Core.Logic.{⊎_elim}
 use mathlib.Core.Path.{◌≡◌, refl}
 use lib.ListN.{length, get_or, take, set, replicate, length-append, get_or-append}
 use lib.Seq.{take-append-le, take-append_seam, get_or-append_seam, get_or-set_same, get_or-set_other}
 use Rattle.meaning.specs.Table.{Table, Row, no_row, looks, look}
-use Rattle.table.specs.Rows.{row_of, meant, table_in}
-use Rattle.counts.specs.Counts.{Places, LookRow, LookRows}
-use Rattle.counts.proofs.Laws.{looks_snoc, rows_passed, table_next}
+use Rattle.table.specs.Rows.{meant, table_in}
+use Rattle.table.specs.declared.Row as T
+use Rattle.counts.specs.Counts.{is_look, Places, LookRow, LookRows}
+use Rattle.counts.proofs.Laws.{look_is, looks_snoc, rows_passed, table_next}
 
 pub zeros : (n i : ℕ) → ◌≡◌ {A = ℕ} (get_or (replicate n 0) i 0) 0
 zeros zero i = refl
@@ -68,20 +70,23 @@ module _ (rows : Table) (r : Row) where
         rest = λ j g. rw (get_or-set_other l (looks rows) j (length rows) 0 (omega arith)) (f.rest j (omega arith));
       }
 
--- the same over cells, as a loop passes them
-module _ (cells l : List ℕ) (i m : ℕ) (inside : i < length cells) (counted : m ≡ looks (take i (table_in cells))) where
-  passed : length (take i (table_in cells)) ≡ i
-  passed = rows_passed cells i (omega arith)
+-- the same as a loop passes the rows
+module _ (rows : List T.Row) (d : T.Row) (l : List ℕ) (i m : ℕ) (inside : i < length rows) (counted : m ≡ looks (take i (table_in rows))) where
+  passed : length (take i (table_in rows)) ≡ i
+  passed = rows_passed rows i (omega arith)
 
-  pub places_next : Places (take i (table_in cells)) l → i < length l → Places (take (i + 1) (table_in cells)) (set l i m)
+  pub places_next : Places (take i (table_in rows)) l → i < length l → Places (take (i + 1) (table_in rows)) (set l i m)
   places_next p h =
-      let g : length (take i (table_in cells)) < length l = omega (arith, passed) in
-      rw (table_next cells i inside, counted) (rw passed at (places_more (take i (table_in cells)) (meant (row_of (get_or cells i 0))) l p g))
+      let g : length (take i (table_in rows)) < length l = omega (arith, passed) in
+      rw (table_next rows d i inside, counted) (rw passed at (places_more (take i (table_in rows)) (meant (get_or rows i d)) l p g))
 
-  pub found_next : LookRows (take i (table_in cells)) l → look (meant (row_of (get_or cells i 0))) ≡ 1 → m < length l → LookRows (take (i + 1) (table_in cells)) (set l m i)
+  pub found_next : LookRows (take i (table_in rows)) l → true ≡ is_look (get_or rows i d) → m < length l → LookRows (take (i + 1) (table_in rows)) (set l m i)
   found_next f e h =
-      let g : looks (take i (table_in cells)) < length l = omega arith in
-      rw (table_next cells i inside, counted) (rw passed at (found_more (take i (table_in cells)) (meant (row_of (get_or cells i 0))) l f e g))
+      let g : looks (take i (table_in rows)) < length l = omega arith in
+      let one = look_is (get_or rows i d) in
+      rw (table_next rows d i inside, counted) (rw passed at (found_more (take i (table_in rows)) (meant (get_or rows i d)) l f (rw (← e) at one) g))
 
-  pub found_not : LookRows (take i (table_in cells)) l → look (meant (row_of (get_or cells i 0))) ≡ 0 → LookRows (take (i + 1) (table_in cells)) l
-  found_not f e = rw (table_next cells i inside) (found_skip (take i (table_in cells)) (meant (row_of (get_or cells i 0))) l f e)
+  pub found_not : LookRows (take i (table_in rows)) l → false ≡ is_look (get_or rows i d) → LookRows (take (i + 1) (table_in rows)) l
+  found_not f e =
+      let none = look_is (get_or rows i d) in
+      rw (table_next rows d i inside) (found_skip (take i (table_in rows)) (meant (get_or rows i d)) l f (rw (← e) at none))

@@ -1,6 +1,12 @@
 -- 01, section 4: which bit is which row's. Two lists, one from rows to bits and one from bits to rows.
-use Rattle.std.specs.Prelude.{ℕ, ◌<◌, ◌≤◌, List, ◌≡◌, get_or, length, take}
+use Rattle.std.specs.Prelude.{ℕ, ◌<◌, ◌≤◌, Bool, List, ◌≡◌, eqb, get_or, length, take}
 use Rattle.meaning.specs.Table.{Table, row_at, look, looks}
+use Rattle.table.specs.Rows.{meant}
+use Rattle.table.specs.declared.Row.{Row}
+
+-- Whether a row is a `go` row.
+abbrev pub is_look : Row → Bool
+is_look row = eqb (look (meant row)) 1
 
 -- The place of each row's bit, if it is a `go` row: the first has place 0, the second 1, and so on.
 pub record Places (rows : Table) (places : List ℕ) : Type 0 where

@@ -6,4 +6,4 @@ use Rattle.counts.specs.Counts.{LookRows}
 use Rattle.counts.proofs.look_rows_of.Given as goal
 
 abbrev pub invariant-loop-i : goal.invariant-loop-i
-invariant-loop-i l = (l.found ≡ looks (take l.i (table_in l.cells))) × (l.found ≤ l.i) × (length l.rows ≡ 48) × LookRows (take l.i (table_in l.cells)) l.rows
+invariant-loop-i l = (l.m ≡ looks (take l.i (table_in l.rows))) × (l.m ≤ l.i) × (length l.found ≡ 48) × LookRows (take l.i (table_in l.rows)) l.found

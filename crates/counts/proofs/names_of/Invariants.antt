@@ -4,5 +4,5 @@ use Rattle.meaning.specs.Table.{names}
 use Rattle.table.specs.Rows.{table_in}
 use Rattle.counts.proofs.names_of.Given as goal
 
-abbrev pub invariant-loop-i : goal.invariant-loop-i
-invariant-loop-i l = (l.most ≡ names (take l.i (table_in l.cells))) × (l.most ≤ 256)
+abbrev pub invariant-loop-row : goal.invariant-loop-row
+invariant-loop-row l = (l.most ≡ names (take l.row-index (table_in l.rows))) × (l.most ≤ 256)
