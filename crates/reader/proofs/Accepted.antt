@@ -1,17 +1,17 @@
 -- What a caller of `read_text` has of its answer: the rows of an accepted text, and the sizes of a refusal's numbers.
 use mathlib.Core.Path.{◌≡◌, refl, sym, subst}
 use mathlib.Core.List.{List, []}
-use mathlib.Core.Bool.{Bool, true, false}
 use Prim.Native.Nat.{ℕ, zero, suc, ◌<◌, ◌≤◌}
 use native.Mathlib.Omega.{arith}
-use lib.Dec.{eqb}
 use lib.ListN.{length, get_or}
-use borrow.Author.Tests.{eq-eqb, eqb-true}
 use Rattle.meaning.specs.Table.{row_limit}
 use Rattle.table.specs.declared.Row.{Row}
+use Rattle.std.specs.Prelude.{Ok, Err}
+use Rattle.table.specs.declared.Table.{Table}
+use Rattle.table.specs.declared.refusal.Refusal.{Refusal}
+use Rattle.table.specs.Refusals.{number_of, place_of}
 use Rattle.table.specs.Rows.{rows_of}
 use Rattle.table.specs.Written.{Writable, Exists}
-use Rattle.reader.specs.declared.Read.{Read}
 use Rattle.reader.specs.Reading.{Reading, rows_read, refused, Sound, none, more, After, Reads, empty, malformed, too_many, not_there, read, Answers}
 
 pub record Accepted (text : List ℕ) (rows : List Row) : Type 0 where
@@ -31,8 +31,8 @@ rows_are {text} (read r a l h) rows q =
     let e : r ≡ rows = cc in
     subst (λ (x : List Row). Accepted text x) e (record { after = a; some = l; few = h })
 
-pub accepted : (text : List ℕ) (r : Read) → Answers text r → r.refusal ≡ 0 → Accepted text (rows_of r.table)
-accepted text r a e = rows_are a.reads (rows_of r.table) (rw (eq-eqb r.refusal 0 e))
+pub accepted : (text : List ℕ) (t : Table) → Answers text (Ok t) → Accepted text (rows_of t)
+accepted text t a = rows_are a.reads (rows_of t) refl
 
 -- each row of an accepted text
 pub exists_at : {rows : List Row} (d : Row) → Sound rows → (i : ℕ) → i < length rows → Exists (get_or rows i d)
@@ -60,12 +60,5 @@ small_of (too_many r s a h b) n p q = let f = same q in record { number_small = 
 small_of (not_there r x end a h w m) n p q = let f = same q in record { number_small = omega arith; place_small = omega arith }
 small_of (read r a l h) n p q = clash (sym q)
 
-pub small : (text : List ℕ) (r : Read) → Answers text r → Small r.refusal r.place
-small text r a = at (eqb r.refusal 0) refl
-  where
-    at : (b : Bool) → eqb r.refusal 0 ≡ b → Small r.refusal r.place
-    at true e =
-        let z : r.refusal ≡ 0 = eqb-true r.refusal 0 e in
-        let p : r.place ≡ 0 = a.no_place z in
-        record { number_small = omega arith; place_small = omega arith }
-    at false e = small_of a.reads r.refusal r.place (rw e)
+pub small : (text : List ℕ) (r : Refusal) → Answers text (Err r) → Small (number_of r) (place_of r)
+small text r a = small_of a.reads (number_of r) (place_of r) refl

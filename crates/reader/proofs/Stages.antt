@@ -4,20 +4,21 @@ use mathlib.Core.List.{List, [], ◌∷◌}
 use Prim.Native.Nat.{ℕ, zero, suc}
 use native.Mathlib.Omega.{arith}
 use lib.ListN.{get_or}
+use Rattle.table.specs.declared.Kind.{Kind}
 use Rattle.table.specs.declared.Row.{Row}
 use Rattle.table.specs.Rows.{row_by}
 use Rattle.table.specs.Written.{line_feed}
 use Rattle.reader.specs.Parts.{Taken, taken, nothing, ◌then◌, byte_in, field_in, fields_in, closed, fields_of, word_in, line_in}
 use Rattle.reader.proofs.Words.{shape}
 
-pub two_left : (k : ℕ) {n : ℕ} → n ≡ fields_of k → (n ≡ 0 → ⊥) → (n ≡ 1 → ⊥) → n ≡ 2
+pub two_left : (k : Kind) {n : ℕ} → n ≡ fields_of k → (n ≡ 0 → ⊥) → (n ≡ 1 → ⊥) → n ≡ 2
 two_left k e f g = omega (arith, shape (row_by k 0 0), f, g)
 
 pub no_word : (s : List ℕ) → word_in s ≡ nothing → line_in s ≡ nothing
 unfolding line_in
 no_word s e = rw e
 
-module _ (s : List ℕ) (k : ℕ) (s₁ : List ℕ) (w : word_in s ≡ taken k s₁) {n : ℕ} (m : n ≡ fields_of k) where
+module _ (s : List ℕ) (k : Kind) (s₁ : List ℕ) (w : word_in s ≡ taken k s₁) {n : ℕ} (m : n ≡ fields_of k) where
   pub no_fields : (r : Row) → n ≡ 0 → r ≡ row_by k 0 0 → line_in s ≡ closed r s₁
   unfolding line_in fields_in
   no_fields r e q = rw (w, sym m ∙ e, q) (ended (byte_in line_feed s₁))

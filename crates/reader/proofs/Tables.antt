@@ -1,19 +1,20 @@
 -- Tables as a kind of line: rows, the numbers of 01, and what reading a table's text gives as one of the ends of a scan.
-use mathlib.Core.Path.{◌≡◌, refl, ap, sym, subst, ◌∙◌}
+use mathlib.Core.Path.{◌≡◌, refl, subst}
 use mathlib.Core.List.{List, [], ◌∷◌, ◌++◌}
 use Prim.Native.Nat.{ℕ, ◌≤◌}
 use native.Mathlib.Decide.{dec_le}
 use lib.ListN.{length}
-use borrow.Author.Tests.{ne_eqb}
 use Rattle.meaning.specs.Table.{row_limit}
 use Rattle.table.specs.declared.Row.{Row}
 use Rattle.table.specs.declared.Row.TheVariants.{Yes, No, Is, Isnot, Any, All, Go, Stop}
 use Rattle.table.specs.declared.Table.{Table}
+use Rattle.table.specs.declared.refusal.Refusal.{Refusal}
+use Rattle.table.specs.Refusals.{number_of, place_of}
 use Rattle.table.specs.Rows.{rows_of}
+use Rattle.std.specs.Prelude.{Ok, Err}
 use Rattle.table.specs.Written.{written, written_rows, Writable, Direction, Exists}
-use Rattle.reader.specs.declared.Read.{Read}
 use Rattle.reader.specs.Parts.{nothing, line_in, first_of, starts_with}
-use Rattle.reader.specs.Reading.{Reading, rows_read, refused, Sound, none, more, Reads, empty, malformed, too_many, not_there, read, reading_of, Answers}
+use Rattle.reader.specs.Reading.{Reading, rows_read, refused, Sound, none, more, Reads, empty, malformed, too_many, not_there, read, Answers}
 use Rattle.reader.proofs.Written.{line_read, line_taken}
 use Rattle.reader.proofs.Scan.{Kind, reading}
 use Rattle.reader.proofs.Settled as settled
@@ -102,22 +103,8 @@ only r = settled.only tables (ends_of r)
 
 -- the answers of `read_text`
 module _ (text : List ℕ) where
-  pub refuses : (number place : ℕ) (r : Read) → (r.refusal ≡ number) × (r.place ≡ place) × (r.table.rows ≡ 0) × (rows_of r.table ≡ []) → (number ≡ 0 → ⊥) → reading tables text ≡ refused number place → Answers text r
-  refuses number place r f n e =
-      let z : r.refusal ≡ 0 → ⊥ = λ q. n (sym f.0 ∙ q) in
-      let w : reading_of r ≡ reading tables text = rw (ne_eqb r.refusal 0 z) (cc) in
-      record {
-        reads = subst (λ (a : Reading). Reads text a) (sym w) (reads text);
-        counted = f.2 ∙ sym (ap length f.3);
-        no_rows = λ q. f.2;
-        no_place = λ q. absurd (z q);
-      }
+  pub refuses : (r : Refusal) → reading tables text ≡ refused (number_of r) (place_of r) → Answers text (Err r)
+  refuses r e = record { reads = subst (λ (a : Reading). Reads text a) e (reads text); counted = tt }
 
-  pub accepts : (t : Table) → t.rows ≡ length (rows_of t) → reading tables text ≡ rows_read (rows_of t) → Answers text (record { refusal = 0; place = 0; table = t })
-  accepts t c e =
-      record {
-        reads = subst (λ (a : Reading). Reads text a) e (reads text);
-        counted = c;
-        no_rows = λ q. absurd (q refl);
-        no_place = λ q. refl;
-      }
+  pub accepts : (t : Table) → t.rows.len ≡ length (rows_of t) → reading tables text ≡ rows_read (rows_of t) → Answers text (Ok t)
+  accepts t c e = record { reads = subst (λ (a : Reading). Reads text a) e (reads text); counted = c }

@@ -6,12 +6,14 @@ use Prim.Native.Nat.{ℕ, ◌+◌, ◌*◌, ◌/◌, ◌%◌, ◌≤◌}
 use native.Mathlib.Omega.{arith}
 use lib.Dec.{eqb, ltb}
 use lib.ListN.{length, length-append}
-use borrow.Author.Tests.{eqb-true, eqb-false}
-use Rattle.table.specs.declared.Row.{Row}
+use Rattle.std.specs.Prelude.{Ok, Err}
+use Rattle.table.specs.declared.refusal.Refusal.{Refusal}
+use Rattle.table.specs.declared.refusal.Refusal.TheVariants.{Empty, Malformed, TooMany, NotThere, Missing, Looping, Large, NoRoom, MalformedLine, FaultyLine}
+use Rattle.table.specs.Refusals.{number_of, place_of}
 use Rattle.table.specs.Rows.{rows_of}
 use Rattle.table.specs.Written.{word, fields, decimal, written_fields, written_rows}
 use Rattle.reader.specs.Reading.{rows_read, refused, Reads, read}
-use Rattle.reader.specs.Theorems.{OneReading, SameAnswer, OneAnswer, ReadsBack, OneRow, LineLength}
+use Rattle.reader.specs.Theorems.{OneReading, OneAnswer, ReadsBack, OneRow, LineLength}
 use Rattle.reader.proofs.Words.{shape}
 use Rattle.reader.proofs.Scan.{reading, one_item}
 use Rattle.reader.proofs.Tables.{tables, reads, only}
@@ -19,32 +21,37 @@ use Rattle.reader.proofs.Tables.{tables, reads, only}
 pub one_reading : (text : List ℕ) → OneReading text
 one_reading text = record { reading = reading tables text; reads = reads text; unique = λ p q. only p ∙ sym (only q) }
 
-no_row : (rows : List Row) → length rows ≡ 0 → rows ≡ []
-no_row [] e = refl
-no_row (r ∷ rows) e = absurd (omega arith)
+-- a refusal by its number and place
+refusal_by : ℕ → ℕ → Refusal
+refusal_by n i =
+    cond (eqb n 1) Empty (cond (eqb n 2) (Malformed i) (cond (eqb n 3) TooMany (cond (eqb n 4) (NotThere i) (cond (eqb n 5) (Missing i) (cond (eqb n 6) (Looping i) (cond (eqb n 7) Large (cond (eqb n 8) NoRoom (cond (eqb n 9) (MalformedLine i) (FaultyLine i)))))))))
+
+by_number : (r : Refusal) → refusal_by (number_of r) (place_of r) ≡ r
+unfolding refusal_by
+by_number Empty = refl
+by_number (Malformed i) = refl
+by_number TooMany = refl
+by_number (NotThere i) = refl
+by_number (Missing i) = refl
+by_number (Looping i) = refl
+by_number Large = refl
+by_number NoRoom = refl
+by_number (MalformedLine i) = refl
+by_number (FaultyLine i) = refl
+
+same_refusal : (r q : Refusal) → refused (number_of r) (place_of r) ≡ refused (number_of q) (place_of q) → r ≡ q
+same_refusal r q e =
+    let n : number_of r ≡ number_of q = cc in
+    let p : place_of r ≡ place_of q = cc in
+    sym (by_number r) ∙ rw (n, p) (by_number q)
 
 pub one_answer : OneAnswer
-one_answer text r q a b = at (eqb r.refusal 0) (eqb q.refusal 0) refl refl ((one_reading text).unique a.reads b.reads)
-  where
-    at : (s t : Bool) → eqb r.refusal 0 ≡ s → eqb q.refusal 0 ≡ t
-        → cond s (rows_read (rows_of r.table)) (refused r.refusal r.place) ≡ cond t (rows_read (rows_of q.table)) (refused q.refusal q.place)
-        → SameAnswer r q
-    at true true x y e =
-        let f : r.refusal ≡ 0 = eqb-true r.refusal 0 x in
-        let g : q.refusal ≡ 0 = eqb-true q.refusal 0 y in
-        let m : rows_of r.table ≡ rows_of q.table = cc in
-        record { refusal = f ∙ sym g; place = a.no_place f ∙ sym (b.no_place g); count = a.counted ∙ ap length m ∙ sym b.counted; rows = m }
-    at true false x y e = absurd (let z : ◌≡◌ {A = ℕ} 0 1 = cc in omega arith)
-    at false true x y e = absurd (let z : ◌≡◌ {A = ℕ} 0 1 = cc in omega arith)
-    at false false x y e =
-        let f : r.table.rows ≡ 0 = a.no_rows (eqb-false r.refusal 0 x) in
-        let g : q.table.rows ≡ 0 = b.no_rows (eqb-false q.refusal 0 y) in
-        record {
-          refusal = cc;
-          place = cc;
-          count = f ∙ sym g;
-          rows = no_row (rows_of r.table) (sym a.counted ∙ f) ∙ sym (no_row (rows_of q.table) (sym b.counted ∙ g));
-        }
+one_answer text (Ok t) (Ok u) a b =
+    let m : rows_of t ≡ rows_of u = let e = (one_reading text).unique a.reads b.reads in cc in
+    record { count = a.counted ∙ ap length m ∙ sym b.counted; rows = m }
+one_answer text (Err r) (Err q) a b = same_refusal r q ((one_reading text).unique a.reads b.reads)
+one_answer text (Ok t) (Err q) a b = let e = (one_reading text).unique a.reads b.reads in let z : ◌≡◌ {A = ℕ} 0 1 = cc in omega arith
+one_answer text (Err r) (Ok u) a b = let e = (one_reading text).unique a.reads b.reads in let z : ◌≡◌ {A = ℕ} 0 1 = cc in omega arith
 
 pub reads_back : ReadsBack
 reads_back rows s l h =

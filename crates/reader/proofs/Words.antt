@@ -1,20 +1,57 @@
 -- A kind's word at the front of a text, and how many bytes words and numbers take.
-use mathlib.Core.Path.{◌≡◌}
-use mathlib.Core.List.{List}
-use mathlib.Core.Bool.{true}
-use Prim.Native.Nat.{ℕ, ◌+◌, ◌*◌, ◌≤◌}
+use mathlib.Core.Path.{◌≡◌, refl, sym, ◌∙◌}
+use mathlib.Core.List.{List, [], ◌∷◌}
+use mathlib.Core.Bool.{Bool, true, false, cond, ◌&&◌}
+use Prim.Native.Nat.{ℕ, ◌+◌, ◌*◌, ◌<◌, ◌≤◌}
 use native.Mathlib.Omega.{arith}
-use lib.ListN.{length, drop}
-use lib.Seq.{drop-drop}
+use native.Mathlib.Numerals.{add-one}
+use lib.Dec.{eqb}
+use lib.ListN.{length, get_or, take, drop, drop_of_length-le}
+use lib.Pointwise.{pointwise}
+use lib.Seq.{drop-cons}
+use Rattle.std.specs.Borrow.{Bor}
+use Rattle.table.specs.declared.Kind.{Kind}
 use Rattle.table.specs.declared.Row.{Row}
 use Rattle.table.specs.declared.Row.TheVariants.{Yes, No, Is, Isnot, Any, All, Go, Stop}
 use Rattle.table.specs.Written.{word, fields}
-use Rattle.reader.specs.Parts.{starts_with}
-use Rattle.reader.proofs.Bytes.{fits_at}
+use Rattle.reader.specs.Parts.{Taken, taken, nothing, starts_with}
 
--- where a word stands, the text goes on behind it
-pub after_word : (text : List ℕ) (at : ℕ) (w : List ℕ) → at ≤ length text → starts_with (drop at text) w ≡ true → (drop (length w) (drop at text) ≡ drop (at + length w) text) × (at + length w ≤ length text)
-after_word text at w l t = (drop-drop (length w) at text, omega (arith, fits_at text w at t))
+-- a word stands at the front where the bytes there are the word's
+front : (s w : List ℕ) → starts_with s w ≡ pointwise eqb (take (length w) s) w
+unfolding starts_with
+front s [] = refl
+front [] (b ∷ w) = refl
+front (x ∷ s) (b ∷ w) = rw (front s w) (both (eqb x b) _)
+  where
+    both : (t p : Bool) → cond t p false ≡ (t && p)
+    both true p = refl
+    both false p = refl
+
+-- the words that are tried one after another, each with its kind
+abbrev pub Words : Type 0
+Words = List (Bor (List ℕ) × Kind)
+
+unfoldable pub first_word : Words → List ℕ → Taken Kind
+first_word [] s = nothing
+first_word (w ∷ ws) s = cond (starts_with s w.0.now) (taken w.1 (drop (length w.0.now) s)) (first_word ws s)
+
+module _ (ws : Words) (s : List ℕ) (i : ℕ) where
+  pub none_left : length ws ≤ i → first_word (drop i ws) s ≡ nothing
+  unfolding first_word
+  none_left h = rw (drop_of_length-le ws h)
+
+  module _ (d : Bor (List ℕ) × Kind) (h : i < length ws) where
+    tried : first_word (drop i ws) s ≡ cond (starts_with s (get_or ws i d).0.now) (taken (get_or ws i d).1 (drop (length (get_or ws i d).0.now) s)) (first_word (drop (i + 1) ws) s)
+    unfolding first_word
+    tried = rw (drop-cons ws i d, add-one)
+
+    -- the rest of the text, as the loop has it
+    module _ (bytes : List ℕ) (e : bytes ≡ s) where
+      pub word_found : {x : List ℕ} → pointwise eqb (take (length (get_or ws i d).0.now) bytes) (get_or ws i d).0.now ≡ true → x ≡ drop (length (get_or ws i d).0.now) bytes → first_word (drop i ws) s ≡ taken (get_or ws i d).1 x
+      word_found p q = tried ∙ rw (front s (get_or ws i d).0.now, sym e, p, q)
+
+      pub word_missed : pointwise eqb (take (length (get_or ws i d).0.now) bytes) (get_or ws i d).0.now ≡ false → first_word (drop i ws) s ≡ first_word (drop (i + 1) ws) s
+      word_missed p = tried ∙ rw (front s (get_or ws i d).0.now, sym e, p)
 
 -- a word has at least two bytes, and with a tab and two digits a number at most nine
 pub shape : (r : Row) → (2 ≤ length (word r)) × (length (word r) + 3 * length (fields r) ≤ 9)

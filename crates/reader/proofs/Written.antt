@@ -3,9 +3,11 @@
 use mathlib.Core.Path.{◌≡◌, refl, ap, sym, subst, ◌∙◌}
 use mathlib.Core.List.{List, [], ◌∷◌, ◌++◌, append_assoc}
 use mathlib.Core.Bool.{Bool, true, false, cond}
-use Prim.Native.Nat.{ℕ, zero, suc, ◌<◌}
+use Prim.Native.Nat.{ℕ}
 use native.Mathlib.Omega.{arith}
 use lib.ListN.{length, get_or, drop}
+use Rattle.table.specs.declared.Kind.{Kind}
+use Rattle.table.specs.declared.Kind.TheVariants as K
 use Rattle.table.specs.declared.Row.{Row}
 use Rattle.table.specs.declared.Row.TheVariants.{Yes, No, Is, Isnot, Any, All, Go, Stop}
 use Rattle.table.specs.Rows.{row_by}
@@ -14,63 +16,55 @@ use Rattle.reader.specs.Parts.{taken, fields_in, word_of, fields_of, starts_with
 use Rattle.reader.proofs.Bytes.{stands}
 use Rattle.reader.proofs.Numbers.{fields_read, fields_taken, then_taken}
 
-kind_of : Row → ℕ
-kind_of Yes = 0
-kind_of No = 1
-kind_of (Is n) = 2
-kind_of (Isnot n) = 3
-kind_of (Any i j) = 4
-kind_of (All i j) = 5
-kind_of (Go d i) = 6
-kind_of (Stop d) = 7
+kind_of : Row → Kind
+kind_of Yes = K.Yes
+kind_of No = K.No
+kind_of (Is n) = K.Is
+kind_of (Isnot n) = K.Isnot
+kind_of (Any i j) = K.Any
+kind_of (All i j) = K.All
+kind_of (Go d i) = K.Go
+kind_of (Stop d) = K.Stop
 
 -- a row's word is taken, whatever follows the fields; its fields make the row again
-record Kind (r : Row) : Type 0 where
+record Shaped (r : Row) : Type 0 where
   word_read : (rest : List ℕ) → word_in (word r ++ (written_fields (fields r) ++ rest)) ≡ taken (kind_of r) (written_fields (fields r) ++ rest)
   many : fields_of (kind_of r) ≡ length (fields r)
   made : row_by (kind_of r) (get_or (fields r) 0 0) (get_or (fields r) 1 0) ≡ r
 
-kind : (r : Row) → Kind r
+shaped : (r : Row) → Shaped r
 unfolding kind_of first_of starts_with written_fields
-kind Yes = record { word_read = λ rest. refl; many = refl; made = refl }
-kind No = record { word_read = λ rest. refl; many = refl; made = refl }
-kind (Is n) = record { word_read = λ rest. refl; many = refl; made = refl }
-kind (Isnot n) = record { word_read = λ rest. refl; many = refl; made = refl }
-kind (Any i j) = record { word_read = λ rest. refl; many = refl; made = refl }
-kind (All i j) = record { word_read = λ rest. refl; many = refl; made = refl }
-kind (Go d i) = record { word_read = λ rest. refl; many = refl; made = refl }
-kind (Stop d) = record { word_read = λ rest. refl; many = refl; made = refl }
+shaped Yes = record { word_read = λ rest. refl; many = refl; made = refl }
+shaped No = record { word_read = λ rest. refl; many = refl; made = refl }
+shaped (Is n) = record { word_read = λ rest. refl; many = refl; made = refl }
+shaped (Isnot n) = record { word_read = λ rest. refl; many = refl; made = refl }
+shaped (Any i j) = record { word_read = λ rest. refl; many = refl; made = refl }
+shaped (All i j) = record { word_read = λ rest. refl; many = refl; made = refl }
+shaped (Go d i) = record { word_read = λ rest. refl; many = refl; made = refl }
+shaped (Stop d) = record { word_read = λ rest. refl; many = refl; made = refl }
 
 pub line_read : (r : Row) (rest : List ℕ) → Writable r → line_in (written r ++ rest) ≡ taken r rest
 unfolding line_in
 line_read r rest h =
-    let k = kind r in
+    let k = shaped r in
     rw (append_assoc (word r) (written_fields (fields r)) rest, k.word_read rest, k.many, fields_read (fields r) rest h, k.made)
 
 -- the other way
-record WordTaken (s : List ℕ) (k : ℕ) (rest : List ℕ) : Type 0 where
-  known : k < 8
-  split : s ≡ word_of k ++ rest
-
-abbrev Known : List ℕ → Type 0
-Known [] = Unit {0}
-Known (k ∷ ks) = (k < 8) × Known ks
-
-word_taken : (ks s : List ℕ) (k : ℕ) (rest : List ℕ) → Known ks → first_of ks s ≡ taken k rest → WordTaken s k rest
+word_taken : (ks : List Kind) (s : List ℕ) (k : Kind) (rest : List ℕ) → first_of ks s ≡ taken k rest → s ≡ word_of k ++ rest
 unfolding first_of
-word_taken [] s k rest h e = absurd (let z : ◌≡◌ {A = ℕ} 0 1 = cc in omega arith)
-word_taken (j ∷ ks) s k rest h e = at (starts_with s (word_of j)) refl (word_taken ks s k rest h.1) e
+word_taken [] s k rest e = absurd (let z : ◌≡◌ {A = ℕ} 0 1 = cc in omega arith)
+word_taken (j ∷ ks) s k rest e = at (starts_with s (word_of j)) refl (word_taken ks s k rest) e
   where
-    at : (t : Bool) → starts_with s (word_of j) ≡ t → (first_of ks s ≡ taken k rest → WordTaken s k rest) → cond t (taken j (drop (length (word_of j)) s)) (first_of ks s) ≡ taken k rest → WordTaken s k rest
+    at : (t : Bool) → starts_with s (word_of j) ≡ t → (first_of ks s ≡ taken k rest → s ≡ word_of k ++ rest) → cond t (taken j (drop (length (word_of j)) s)) (first_of ks s) ≡ taken k rest → s ≡ word_of k ++ rest
     at true q f p =
         let i : j ≡ k = cc in
         let d : drop (length (word_of j)) s ≡ rest = cc in
         let w : s ≡ word_of j ++ rest = stands s (word_of j) q ∙ ap (λ (l : List ℕ). word_of j ++ l) d in
-        subst (λ (x : ℕ). WordTaken s x rest) i (record { known = h.0; split = w })
+        subst (λ (x : Kind). s ≡ word_of x ++ rest) i w
     at false q f p = f p
 
--- fields of a kind's number make a row of the kind
-record Made (k : ℕ) (ns : List ℕ) : Type 0 where
+-- fields of a kind's count make a row of the kind
+record Made (k : Kind) (ns : List ℕ) : Type 0 where
   same_word : word (row_by k (get_or ns 0 0) (get_or ns 1 0)) ≡ word_of k
   same_fields : fields (row_by k (get_or ns 0 0) (get_or ns 1 0)) ≡ ns
 
@@ -86,16 +80,15 @@ two_fields : (ns : List ℕ) → length ns ≡ 2 → get_or ns 0 0 ∷ (get_or n
 two_fields [] e = absurd (omega arith)
 two_fields (n ∷ ns) e = ap (λ (l : List ℕ). n ∷ l) (one_field ns (omega arith))
 
-made : (k : ℕ) (ns : List ℕ) → k < 8 → length ns ≡ fields_of k → Made k ns
-made zero ns h e = record { same_word = refl; same_fields = no_field ns e }
-made (suc zero) ns h e = record { same_word = refl; same_fields = no_field ns e }
-made (suc (suc zero)) ns h e = record { same_word = refl; same_fields = one_field ns e }
-made (suc (suc (suc zero))) ns h e = record { same_word = refl; same_fields = one_field ns e }
-made (suc (suc (suc (suc zero)))) ns h e = record { same_word = refl; same_fields = two_fields ns e }
-made (suc (suc (suc (suc (suc zero))))) ns h e = record { same_word = refl; same_fields = two_fields ns e }
-made (suc (suc (suc (suc (suc (suc zero)))))) ns h e = record { same_word = refl; same_fields = two_fields ns e }
-made (suc (suc (suc (suc (suc (suc (suc zero))))))) ns h e = record { same_word = refl; same_fields = one_field ns e }
-made (suc (suc (suc (suc (suc (suc (suc (suc k)))))))) ns h e = absurd (omega arith)
+made : (k : Kind) (ns : List ℕ) → length ns ≡ fields_of k → Made k ns
+made K.Yes ns e = record { same_word = refl; same_fields = no_field ns e }
+made K.No ns e = record { same_word = refl; same_fields = no_field ns e }
+made K.Is ns e = record { same_word = refl; same_fields = one_field ns e }
+made K.Isnot ns e = record { same_word = refl; same_fields = one_field ns e }
+made K.Any ns e = record { same_word = refl; same_fields = two_fields ns e }
+made K.All ns e = record { same_word = refl; same_fields = two_fields ns e }
+made K.Go ns e = record { same_word = refl; same_fields = two_fields ns e }
+made K.Stop ns e = record { same_word = refl; same_fields = one_field ns e }
 
 pub record LineTaken (s : List ℕ) (r : Row) (rest : List ℕ) : Type 0 where
   pub form : Writable r
@@ -106,9 +99,9 @@ unfolding line_in
 line_taken s r rest e =
     let t = then_taken (word_in s) _ e in
     let u = then_taken (fields_in (fields_of t.0) t.1) _ t.3 in
-    let w = word_taken kinds s t.0 t.1 (omega arith) t.2 in
+    let w = word_taken kinds s t.0 t.1 t.2 in
     let f = fields_taken (fields_of t.0) t.1 u.0 u.1 u.2 in
-    let m = made t.0 u.0 w.known f.many in
+    let m = made t.0 u.0 f.many in
     let row = row_by t.0 (get_or u.0 0 0) (get_or u.0 1 0) in
     let q : row ≡ r = cc in
     let l : TwoDigits (fields row) = subst TwoDigits (sym m.same_fields) f.small in

@@ -1,13 +1,11 @@
 -- What the readers of one line take off the front of a text, part by part. Only contracts inside this crate cite it; what a whole text gives
 -- is said in Reading without it.
-use Rattle.std.specs.Prelude.{ℕ, zero, suc, ◌+◌, ◌-◌, ◌*◌, ◌≤◌, Bool, true, false, cond, List, [], ◌∷◌, ◌≡◌, eqb, leb, length, get_or, drop}
+use Rattle.std.specs.Prelude.{ℕ, zero, suc, ◌+◌, ◌-◌, ◌*◌, Bool, true, false, cond, List, [], ◌∷◌, ◌≡◌, eqb, leb, length, get_or, drop, Option, MatchOption}
+use Rattle.table.specs.declared.Kind.{Kind}
+use Rattle.table.specs.declared.Kind.TheVariants.{Yes, No, Is, Isnot, Any, All, Go, Stop}
 use Rattle.table.specs.declared.Row.{Row}
 use Rattle.table.specs.Rows.{row_by}
 use Rattle.table.specs.Written.{tab, line_feed, word, fields}
-use Rattle.reader.specs.declared.parts.Part.{Part}
-use Rattle.reader.specs.declared.parts.Part.TheVariants.{Is, Wrong}
-use Rattle.reader.specs.declared.lines.Line.{Line}
-use Rattle.reader.specs.declared.lines.Line.TheVariants as L
 
 -- What was taken, and the text behind it; or nothing, where the text's front is of wrong form.
 pub data Taken (A : Type 0) : Type 0 where
@@ -19,14 +17,9 @@ abbrev pub ◌then◌ : {A B : Type 0} → Taken A → (A → List ℕ → Taken
 taken a rest then f = f a rest
 nothing then f = nothing
 
--- A reader gives what is taken and the position in the whole text at which the rest begins.
-abbrev pub Gives : List ℕ → Part → Taken ℕ → Type 0
-Gives text (Is n next) t = (t ≡ taken n (drop next text)) × (next ≤ length text)
-Gives text Wrong t = t ≡ nothing
-
-abbrev pub GivesRow : List ℕ → Line → Taken Row → Type 0
-GivesRow text (L.Row r next) t = (t ≡ taken r (drop next text)) × (next ≤ length text)
-GivesRow text L.Wrong t = t ≡ nothing
+-- A reader gives what is taken off the front of the old rest, and leaves the new one.
+abbrev pub Takes : {A : Type 0} → List ℕ → List ℕ → Option A → Taken A → Type 0
+Takes old new result t = MatchOption result (t ≡ nothing) (λ a. t ≡ taken a new)
 
 -- A fixed byte.
 abbrev pub byte_in : ℕ → List ℕ → Taken ℕ
@@ -36,6 +29,10 @@ byte_in b (x ∷ s) = cond (eqb x b) (taken b s) nothing
 -- One or two digits; a zero stands alone.
 abbrev pub digit : ℕ → Bool
 digit x = cond (leb 48 x) (leb x 57) false
+
+abbrev pub digit_in : List ℕ → Taken ℕ
+digit_in [] = nothing
+digit_in (x ∷ s) = cond (digit x) (taken (x - 48) s) nothing
 
 abbrev pub second : ℕ → List ℕ → Taken ℕ
 second n [] = taken n []
@@ -59,11 +56,11 @@ fields_in (suc k) s = field_in s then (λ n rest. fields_in k rest then (λ ns e
 abbrev pub closed : Row → List ℕ → Taken Row
 closed r s = byte_in line_feed s then (λ _ end. taken r end)
 
--- A kind's number is the one that a table has for it; its word and how many fields follow are those of its rows.
-abbrev pub word_of : ℕ → List ℕ
+-- A kind's word and how many fields follow it are those of its rows.
+abbrev pub word_of : Kind → List ℕ
 word_of kind = word (row_by kind 0 0)
 
-abbrev pub fields_of : ℕ → ℕ
+abbrev pub fields_of : Kind → ℕ
 fields_of kind = length (fields (row_by kind 0 0))
 
 unfoldable pub starts_with : List ℕ → List ℕ → Bool
@@ -72,15 +69,15 @@ starts_with [] (b ∷ word) = false
 starts_with (x ∷ s) (b ∷ word) = cond (eqb x b) (starts_with s word) false
 
 -- The first of the kinds whose word stands at the front.
-unfoldable pub first_of : List ℕ → List ℕ → Taken ℕ
+unfoldable pub first_of : List Kind → List ℕ → Taken Kind
 first_of [] s = nothing
 first_of (k ∷ ks) s = cond (starts_with s (word_of k)) (taken k (drop (length (word_of k)) s)) (first_of ks s)
 
 -- `isnot` before `is`, which is its beginning.
-abbrev pub kinds : List ℕ
-kinds = 0 ∷ 1 ∷ 3 ∷ 2 ∷ 4 ∷ 5 ∷ 6 ∷ 7 ∷ []
+abbrev pub kinds : List Kind
+kinds = Yes ∷ No ∷ Isnot ∷ Is ∷ Any ∷ All ∷ Go ∷ Stop ∷ []
 
-abbrev pub word_in : List ℕ → Taken ℕ
+abbrev pub word_in : List ℕ → Taken Kind
 word_in s = first_of kinds s
 
 -- A whole line.

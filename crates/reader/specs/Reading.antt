@@ -1,11 +1,13 @@
 -- 01, section 6, refusals 1 to 4: what reading a text gives. It is said by how rows are written and not by how they are read: the text is
 -- some rows of right form, one after another as they are written, and then a rest.
-use Rattle.std.specs.Prelude.{ℕ, ◌<◌, ◌≤◌, cond, List, [], ◌∷◌, ◌++◌, ◌≡◌, eqb, length}
+use Rattle.std.specs.Prelude.{ℕ, ◌<◌, ◌≤◌, List, [], ◌∷◌, ◌++◌, ◌≡◌, length, Result, Ok, Err, IfOk}
 use Rattle.meaning.specs.Table.{row_limit}
 use Rattle.table.specs.declared.Row.{Row}
+use Rattle.table.specs.declared.Table.{Table}
+use Rattle.table.specs.declared.refusal.Refusal.{Refusal}
+use Rattle.table.specs.Refusals.{number_of, place_of}
 use Rattle.table.specs.Rows.{rows_of}
 use Rattle.table.specs.Written.{written, written_rows, Writable, Exists}
-use Rattle.reader.specs.declared.Read.{Read}
 
 -- The rows that were read, or a refusal's number and place.
 pub data Reading : Type 0 where
@@ -44,12 +46,11 @@ pub data Reads (text : List ℕ) : Reading → Type 0 where
   read : (rows : List Row) → After text rows [] → 1 ≤ length rows → length rows ≤ row_limit → Reads text (rows_read rows)
 
 -- 01's numbers for what the code returns.
-abbrev pub reading_of : Read → Reading
-reading_of r = cond (eqb r.refusal 0) (rows_read (rows_of r.table)) (refused r.refusal r.place)
+abbrev pub reading_of : Result Table Refusal → Reading
+reading_of (Ok t) = rows_read (rows_of t)
+reading_of (Err r) = refused (number_of r) (place_of r)
 
--- All that reading gives back: a refused text gives no rows, and an accepted one place 0.
-pub record Answers (text : List ℕ) (r : Read) : Type 0 where
+-- All that reading gives back.
+pub record Answers (text : List ℕ) (r : Result Table Refusal) : Type 0 where
   pub reads : Reads text (reading_of r)
-  pub counted : r.table.rows ≡ length (rows_of r.table)
-  pub no_rows : (r.refusal ≡ 0 → ⊥) → r.table.rows ≡ 0
-  pub no_place : r.refusal ≡ 0 → r.place ≡ 0
+  pub counted : IfOk r (λ t. t.rows.len ≡ length (rows_of t))

@@ -1,11 +1,12 @@
 -- What is proved of the reading of texts, each theorem as a record of what it gives. proofs/Theorems.antt proves them.
-use Rattle.std.specs.Prelude.{ℕ, ◌≤◌, List, ◌++◌, ◌≡◌, length}
+use Rattle.std.specs.Prelude.{ℕ, ◌≤◌, List, ◌++◌, ◌≡◌, length, Result, Ok, Err}
 use Rattle.meaning.specs.Table.{row_limit}
 use Rattle.table.specs.declared.Row.{Row}
 use Rattle.table.specs.declared.Row.TheVariants.{Any}
+use Rattle.table.specs.declared.Table.{Table}
+use Rattle.table.specs.declared.refusal.Refusal.{Refusal}
 use Rattle.table.specs.Rows.{rows_of}
 use Rattle.table.specs.Written.{written, written_rows, Writable}
-use Rattle.reader.specs.declared.Read.{Read}
 use Rattle.reader.specs.Reading.{Reading, rows_read, Sound, Reads, Answers}
 
 -- 1. Every text, of any length and any bytes, has a reading, and no other.
@@ -15,14 +16,18 @@ pub record OneReading (text : List ℕ) : Type 0 where
   pub unique : {a b : Reading} → Reads text a → Reads text b → a ≡ b
 
 -- 2. So what `read_text` gives back is settled, but for the cells of the table beyond its rows, which mean nothing.
-pub record SameAnswer (r q : Read) : Type 0 where
-  pub refusal : r.refusal ≡ q.refusal
-  pub place : r.place ≡ q.place
-  pub count : r.table.rows ≡ q.table.rows
-  pub rows : rows_of r.table ≡ rows_of q.table
+pub record SameTable (t u : Table) : Type 0 where
+  pub count : t.rows.len ≡ u.rows.len
+  pub rows : rows_of t ≡ rows_of u
+
+abbrev pub SameAnswer : Result Table Refusal → Result Table Refusal → Type 0
+SameAnswer (Ok t) (Ok u) = SameTable t u
+SameAnswer (Err r) (Err q) = r ≡ q
+SameAnswer (Ok t) (Err q) = ⊥
+SameAnswer (Err r) (Ok u) = ⊥
 
 abbrev pub OneAnswer : Type 0
-OneAnswer = (text : List ℕ) (r q : Read) → Answers text r → Answers text q → SameAnswer r q
+OneAnswer = (text : List ℕ) (r q : Result Table Refusal) → Answers text r → Answers text q → SameAnswer r q
 
 -- 3. Rows that are written and read again are the same rows.
 pub record ReadBack (rows : List Row) : Type 0 where
