@@ -102,7 +102,7 @@ pub only : {text : List ℕ} {a : Reading} → Reads text a → a ≡ reading ta
 only r = settled.only tables (ends_of r)
 
 -- the answers of `read_text`
-module _ (text : List ℕ) where
+module _ {text : List ℕ} where
   pub refuses : (r : Refusal) → reading tables text ≡ refused (number_of r) (place_of r) → Answers text (Err r)
   refuses r e = record { reads = subst (λ (a : Reading). Reads text a) e (reads text); counted = tt }
 
