@@ -1,7 +1,7 @@
 use Rattle.std.proofs.Common.{◌≤◌, ◌-◌, length, arith, rules}
 use Rattle.std.proofs.KnownBytes.{Consumes-trans}
-use Rattle.show.proofs.Reading.{take-read}
-use Rattle.show.proofs.read_full.Goals as goal
+use Rattle.show.proofs.Parts.{take-read}
+use Rattle.show.proofs.reading.read_full.Goals as goal
 
 pub loop-done-preserved : goal.loop-done-preserved
 loop-done-preserved g c =

@@ -1,0 +1,77 @@
+// The listing of a tree that was found: a line for each of its codes.
+use std::io::Write;
+use std::num::NonZeroUsize;
+use std::{fmt, io};
+
+// The lent memory once a tree is found, and how many codes a name has.
+#[derive(Clone, Copy)]
+pub(crate) struct Listing<'a> {
+    pub(crate) round: &'a [u16],
+    pub(crate) first: &'a [u16],
+    pub(crate) next: &'a [u16],
+    pub(crate) used: &'a [u8],
+    pub(crate) width: NonZeroUsize,
+}
+
+impl Listing<'_> {
+    // One line for each used code, by round and then by code.
+    pub(crate) fn write<W: Write>(&self, out: &mut W, height: u32) -> io::Result<()> {
+        for round in 1..=height {
+            self.write_round(out, round)?;
+        }
+        Ok(())
+    }
+
+    // The used codes of a round, by code.
+    fn write_round<W: Write>(&self, out: &mut W, round: u32) -> io::Result<()> {
+        let entered = self.round.iter().zip(self.used);
+        let beside = self.first.iter().zip(self.next);
+        let codes = entered.zip(beside).enumerate();
+        for (code, (_, (first, next))) in codes.filter(|(_, ((k, used), _))| **used != 0
+            && u32::from(**k) == round)
+        {
+            let line = Line {
+                code,
+                name: code / self.width,
+                first: Neighbour(*first),
+                next: Neighbour(*next),
+            };
+            writeln!(out, "{line}")?;
+        }
+        Ok(())
+    }
+}
+
+// A used code with its name and its neighbours.
+#[derive(Clone, Copy)]
+struct Line {
+    code: usize,
+    name: usize,
+    first: Neighbour,
+    next: Neighbour,
+}
+
+impl fmt::Display for Line {
+    fn fmt<W: fmt::Write>(&self, f: &mut fmt::Formatter<W>) -> fmt::Result {
+        let Line {
+            code,
+            name,
+            first,
+            next,
+        } = *self;
+        write!(f, "{code}\t{name}\t{first}\t{next}")
+    }
+}
+
+// A code, or `-` where there is none.
+#[derive(Clone, Copy)]
+struct Neighbour(u16);
+
+impl fmt::Display for Neighbour {
+    fn fmt<W: fmt::Write>(&self, f: &mut fmt::Formatter<W>) -> fmt::Result {
+        match self.0 {
+            rounds::NONE => f.write_str("-"),
+            code => write!(f, "{code}"),
+        }
+    }
+}
