@@ -1,36 +1,27 @@
 -- Whether a line is faulty can be told, and so every list of lines has a smallest faulty line or none.
 use Prim.Native.Nat.{ℕ, zero, suc, ◌<◌, ◌≤◌}
+use native.Mathlib.Decide.{dec_lt}
+use native.Mathlib.Nat.{eq-or-lt_of_le}
 use native.Mathlib.Omega.{arith}
-use mathlib.Core.Bool.{Bool, not, ◌&&◌, ◌||◌}
+use mathlib.Core.Bool.{Bool, true, false, cond, not, ◌||◌}
 use mathlib.Core.List.{List}
-use mathlib.Core.Logic.{◌⊎◌, inl, inr}
+use mathlib.Core.Logic.{◌⊎◌, inl, inr, ⊎_elim}
 use mathlib.Core.Path.{◌≡◌, refl}
-use borrow.Author.Tests.{leb-true, le-leb, ltb-true, lt-ltb}
+use borrow.Author.Tests.{leb-true, le-leb, ltb-true, ltb-false, lt-ltb}
 use lib.Dec.{eqb, leb, ltb}
-use lib.ListN.{length, get_or}
+use lib.ListN.{length}
 use Rattle.meaning.specs.Table.{Side, first, next}
 use Rattle.table.specs.Decides.{Decides}
 use Rattle.table.proofs.Decides.{never, refuted, negated, same_as, is_number, either, both}
-use Rattle.loops.specs.Search as S
-use Rattle.loops.proofs.Search.{first_most, first_passes, first_before, least_same}
-use Rattle.sheets.specs.Lines.{link, line_at, line_of, lines_in}
-use Rattle.sheets.specs.Links.{Faulty, not_greater, not_there, never_named, named_by_two, named_twice, FaultFree, SmallestFaulty, FirstFaulty}
-use Rattle.sheets.specs.Counting.{wrong, wrong_in, times_named}
+use Rattle.sheets.specs.Lines.{Link, link, line_at}
+use Rattle.sheets.specs.Links.{Faulty, not_greater, not_there, never_named, named_by_two, named_twice, FaultFree, SmallestFaulty}
+use Rattle.sheets.specs.Counting.{wrong, wrong_in, times_named, misnamed_at, faulty_at}
 use Rattle.sheets.specs.declared.Line.{Line}
-use Rattle.sheets.specs.declared.Link.{Link}
-use Rattle.sheets.specs.declared.Link.TheVariants.{Dash, To}
-use Rattle.sheets.proofs.Counting.{lines_long, line_at-lines_in}
+use Rattle.std.specs.Prelude.{Option, None, Some, MatchOption}
 use Rattle.sheets.proofs.Named.{dash_not_to, Twice, in_one, in_two, names_inside, some_line, two_fields, named, named_by_both, count_one, count_two, count_both}
 
 abbrev wrong_at : List Line → ℕ → Side → Bool
 wrong_at lines i s = wrong i (length lines) (link s (line_at lines i))
-
-abbrev misnamed_at : List Line → ℕ → Bool
-misnamed_at lines i = ltb 0 i && not (eqb (times_named i lines) 1)
-
--- the tests of a line in the order of the code
-abbrev faulty_at : List Line → ℕ → Bool
-faulty_at lines i = wrong_in i (length lines) (line_at lines i) || misnamed_at lines i
 
 pub faulty_inside : {lines : List Line} {i : ℕ} → Faulty lines i → i < length lines
 faulty_inside {lines} {i} (not_greater n h) = names_inside lines i n
@@ -41,7 +32,7 @@ faulty_inside (named_twice p h f) = h
 
 module _ (lines : List Line) (i : ℕ) where
   Wrong : Link → Type 0
-  Wrong l = (j : ℕ) × (l ≡ To j) × ((j ≤ i) ⊎ (length lines ≤ j))
+  Wrong l = (j : ℕ) × (l ≡ Some j) × ((j ≤ i) ⊎ (length lines ≤ j))
 
   WrongSide : Side → Type 0
   WrongSide s = Wrong (link s (line_at lines i))
@@ -51,8 +42,8 @@ module _ (lines : List Line) (i : ℕ) where
 
   wrong_told : (l : Link) → Decides (wrong i (length lines) l) (Wrong l)
   unfolding Wrong
-  wrong_told Dash = never (λ w. dash_not_to w.1)
-  wrong_told (To j) =
+  wrong_told None = never (λ w. dash_not_to w.1)
+  wrong_told (Some j) =
       same_as (λ h. (j, refl, h), λ w. let e : w.0 ≡ j = (let f = w.1 in cc) in rw e at w.2)
       (either (leb j i) (leb (length lines) j) (at_most j i) (at_most (length lines) j))
 
@@ -105,39 +96,50 @@ module _ (lines : List Line) (i : ℕ) where
   fault_of (named_by_two p h a b d) = inr (p, λ e. omega (arith, count_two i a b d))
   fault_of (named_twice p h {k = k} f) = inr (p, λ e. omega (arith, count_both i k f))
 
-  told : i < length lines → Decides (faulty_at lines i) (Faulty lines i)
+  told_inside : i < length lines → Decides (wrong_in i (length lines) (line_at lines i) || misnamed_at lines i) (Faulty lines i)
   unfolding Fault WrongSide
-  told inside =
+  told_inside inside =
       same_as (fault inside, fault_of)
       (either (wrong_in i (length lines) (line_at lines i)) (misnamed_at lines i)
       (either (wrong_at lines i first) (wrong_at lines i next) (wrong_told (link first (line_at lines i))) (wrong_told (link next (line_at lines i))))
       misnamed_told)
 
--- the same of a cell
-pub faulty_cell : (cells : List ℕ) (i : ℕ) {b : Bool} → i < length cells → b ≡ (wrong_in i (length cells) (line_of (get_or cells i 0)) || misnamed_at (lines_in cells) i) → Decides b (Faulty (lines_in cells) i)
-faulty_cell cells i h e =
-    let l : i < length (lines_in cells) = rw lines_long h in
-    rw (e, ← line_at-lines_in cells i h, ← lines_long cells) (told (lines_in cells) i l)
-
-module _ (lines : List Line) where
-  -- what a search for the smallest gives
-  pub first_faulty_exists : (i : ℕ) × FirstFaulty lines i
-  first_faulty_exists =
-      let n = length lines in (
-        S.first (faulty_at lines) n 0,
-        record {
-          most = first_most (faulty_at lines) n;
-          faulty = λ h. (told lines (S.first (faulty_at lines) n 0) h).sound (first_passes (faulty_at lines) n h);
-          none_before = λ k h f. refuted (told lines k (faulty_inside f)) (first_before (faulty_at lines) n k h) f;
-        },
-      )
+  pub told : Decides (faulty_at lines i) (Faulty lines i)
+  told = at (ltb i (length lines)) refl
+    where
+      at : (b : Bool) → ltb i (length lines) ≡ b → Decides (cond b (wrong_in i (length lines) (line_at lines i) || misnamed_at lines i) false) (Faulty lines i)
+      at true e = told_inside (ltb-true i (length lines) e)
+      at false e = never (λ f. omega (arith, faulty_inside f, ltb-false i (length lines) e))
 
 module _ {lines : List Line} where
   pub smallest_unique : {i j : ℕ} → SmallestFaulty lines i → SmallestFaulty lines j → i ≡ j
-  smallest_unique {i} {j} a b = least_same (Faulty lines) i j a.faulty a.none_before b.faulty b.none_before
+  smallest_unique {i} {j} a b = at (dec_lt i j) (dec_lt j i)
+    where
+      at : Dec (i < j) → Dec (j < i) → i ≡ j
+      at (yes h) d = absurd (b.none_before i h a.faulty)
+      at (no h) (yes g) = absurd (a.none_before j g b.faulty)
+      at (no h) (no g) = omega arith
 
-  pub smallest_found : {i : ℕ} → FirstFaulty lines i → i < length lines → SmallestFaulty lines i
-  smallest_found f h = record { faulty = f.faulty h; none_before = f.none_before }
+-- what a search finds that has passed the first n lines
+module _ (lines : List Line) where
+  abbrev Passed : ℕ → Type 0
+  Passed n = (k : ℕ) → 0 ≤ k → k < n → faulty_at lines k ≡ false
 
-  pub none_faulty : {i : ℕ} → FirstFaulty lines i → length lines ≤ i → FaultFree lines
-  none_faulty f h k g = f.none_before k (omega (arith, faulty_inside g)) g
+  abbrev First : ℕ → Option ℕ → Type 0
+  First n r = MatchOption r (Passed n) (λ i. (0 ≤ i) × (i < n) × (faulty_at lines i ≡ true) × Passed i)
+
+  pub first_found : (r : Option ℕ) → First (length lines) r → MatchOption r (FaultFree lines) (SmallestFaulty lines)
+  first_found None f = λ k g. refuted (told lines k) (f k (omega arith) (faulty_inside g)) g
+  first_found (Some i) (l, h, e, f) = record { faulty = (told lines i).sound e; none_before = λ k h. refuted (told lines k) (f k (omega arith) h) }
+
+  first_of : (n : ℕ) → (r : Option ℕ) × First n r
+  first_of zero = (None, λ k l h. absurd (omega arith))
+  first_of (suc n) = at (first_of n).0 (first_of n).1 (faulty_at lines n) refl
+    where
+      at : (r : Option ℕ) → First n r → (b : Bool) → faulty_at lines n ≡ b → (r : Option ℕ) × First (suc n) r
+      at (Some i) (l, h, e, f) b q = (Some i, (l, omega arith, e, f))
+      at None f true q = (Some n, (omega arith, omega arith, q, f))
+      at None f false q = (None, λ k l h. ⊎_elim (λ (e : k ≡ n). rw e q) (λ (g : k < n). f k l g) (eq-or-lt_of_le (omega arith)))
+
+  pub smallest_or_none : (r : Option ℕ) × MatchOption r (FaultFree lines) (SmallestFaulty lines)
+  smallest_or_none = let x = first_of (length lines) in (x.0, first_found x.0 x.1)

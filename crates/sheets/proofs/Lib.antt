@@ -1,4 +1,3 @@
-pub mod Cells
 pub mod Numerals
 pub mod Written
 pub mod Stages

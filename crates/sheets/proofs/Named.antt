@@ -9,12 +9,11 @@ use borrow.Author.Tests.{eqb-true, eq-eqb}
 use lib.Dec.{eqb}
 use lib.ListN.{length}
 use Rattle.meaning.specs.Table.{Side, first, next}
-use Rattle.sheets.specs.Lines.{link, line_at}
+use Rattle.sheets.specs.Lines.{Link, link, line_at}
 use Rattle.sheets.specs.Links.{Names}
 use Rattle.sheets.specs.Counting.{names_by, names_in, times_named}
 use Rattle.sheets.specs.declared.Line.{Line}
-use Rattle.sheets.specs.declared.Link.{Link}
-use Rattle.sheets.specs.declared.Link.TheVariants.{Dash, To}
+use Rattle.std.specs.Prelude.{None, Some}
 
 -- two fields name line j: both of one line, or one of each of two
 pub data Twice (lines : List Line) (j : ℕ) : Type 0 where
@@ -26,7 +25,7 @@ later (in_one k h) = in_one (suc k) h
 later (in_two k m d g h) = in_two (suc k) (suc m) (λ e. d (omega arith)) g h
 
 -- no field is both
-pub dash_not_to : {j : ℕ} → Dash ≡ To j → ⊥
+pub dash_not_to : {j : ℕ} → None ≡ Some j → ⊥
 dash_not_to e = absurd (let z : ◌≡◌ {A = ℕ} 0 1 = cc in omega arith)
 
 -- a line that names another is there
@@ -40,41 +39,41 @@ names_inside (l ∷ lines) (suc i) {s} {j} n =
 
 module _ (j : ℕ) where
   -- a field
-  field_one : (l : Link) → l ≡ To j → names_by j l ≡ 1
+  field_one : (l : Link) → l ≡ Some j → names_by j l ≡ 1
   field_one l e = rw (e, eq-eqb j j refl)
 
-  field_to : (l : Link) → 1 ≤ names_by j l → l ≡ To j
-  field_to Dash h = absurd (omega arith)
-  field_to (To k) h = at (eqb k j) refl h
+  field_to : (l : Link) → 1 ≤ names_by j l → l ≡ Some j
+  field_to None h = absurd (omega arith)
+  field_to (Some k) h = at (eqb k j) refl h
     where
-      at : (b : Bool) → eqb k j ≡ b → 1 ≤ cond b 1 0 → To k ≡ To j
-      at true e h = ap To (eqb-true k j e)
+      at : (b : Bool) → eqb k j ≡ b → 1 ≤ cond b 1 0 → Some k ≡ Some j
+      at true e h = ap Some (eqb-true k j e)
       at false e h = absurd (omega arith)
 
   field_most : (l : Link) → names_by j l ≤ 1
-  field_most Dash = omega arith
-  field_most (To k) = at (eqb k j)
+  field_most None = omega arith
+  field_most (Some k) = at (eqb k j)
     where
       at : (b : Bool) → cond b 1 0 ≤ 1
       at true = omega arith
       at false = omega arith
 
   -- a line
-  side_counts : (l : Line) (s : Side) → link s l ≡ To j → 1 ≤ names_in j l
+  side_counts : (l : Line) (s : Side) → link s l ≡ Some j → 1 ≤ names_in j l
   side_counts l first e = omega (arith, field_one l.first e)
   side_counts l next e = omega (arith, field_one l.next e)
 
-  sides_count : (l : Line) → ((s : Side) → link s l ≡ To j) → 2 ≤ names_in j l
+  sides_count : (l : Line) → ((s : Side) → link s l ≡ Some j) → 2 ≤ names_in j l
   sides_count l f = omega (arith, field_one l.first (f first), field_one l.next (f next))
 
-  some_side : (l : Line) → 1 ≤ names_in j l → (s : Side) × (link s l ≡ To j)
+  some_side : (l : Line) → 1 ≤ names_in j l → (s : Side) × (link s l ≡ Some j)
   some_side l h = at (dec_lt 0 (names_by j l.first))
     where
-      at : Dec (0 < names_by j l.first) → (s : Side) × (link s l ≡ To j)
+      at : Dec (0 < names_by j l.first) → (s : Side) × (link s l ≡ Some j)
       at (yes g) = (first, field_to l.first g)
       at (no g) = (next, field_to l.next (omega arith))
 
-  both_sides : (l : Line) → 2 ≤ names_in j l → (s : Side) → link s l ≡ To j
+  both_sides : (l : Line) → 2 ≤ names_in j l → (s : Side) → link s l ≡ Some j
   both_sides l h first = field_to l.first (omega (arith, field_most l.next))
   both_sides l h next = field_to l.next (omega (arith, field_most l.first))
 

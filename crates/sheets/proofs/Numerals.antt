@@ -10,9 +10,8 @@ use borrow.Author.Tests.{eqb-true, ltb-true, ltb-false, lt-ltb, le-ltb}
 use Rattle.table.specs.Written.{tab, decimal}
 use Rattle.reader.specs.Parts.{Taken, taken, nothing, ◌then◌, byte_in, digit, second, number_in}
 use Rattle.reader.proofs.Numbers.{digit_is, digit_fits, second-digit, number_read, number_taken, then_taken, byte_taken}
-use Rattle.sheets.specs.declared.Link.{Link}
-use Rattle.sheets.specs.declared.Link.TheVariants.{Dash, To}
-use Rattle.sheets.specs.Lines.{Linkable}
+use Rattle.std.specs.Prelude.{None, Some}
+use Rattle.sheets.specs.Lines.{Link, Linkable}
 use Rattle.sheets.specs.Written.{numeral, written_link}
 use Rattle.sheets.specs.Parts.{◌or◌, third, to_in, link_in, field_in}
 
@@ -35,21 +34,21 @@ three_digits n x l h i j =
     let d : 48 + k % 10 ≡ x = omega arith in
     rw (le-ltb k 100 p, le-ltb n 10 l, a, b, d)
 
-pub third-digit : (n x : ℕ) (s : List ℕ) → 10 ≤ n → digit x ≡ true → third n (x ∷ s) ≡ taken (To (n * 10 + (x - 48))) s
+pub third-digit : (n x : ℕ) (s : List ℕ) → 10 ≤ n → digit x ≡ true → third n (x ∷ s) ≡ taken (Some (n * 10 + (x - 48))) s
 third-digit n x s l d = rw (le-ltb n 10 l, second-digit x s n d)
 
-pub third_none : (n : ℕ) (s : List ℕ) → NoDigit s → third n s ≡ taken (To n) s
+pub third_none : (n : ℕ) (s : List ℕ) → NoDigit s → third n s ≡ taken (Some n) s
 third_none n s f = at (ltb n 10)
   where
-    at : (t : Bool) → (cond t (taken n s) (second n s) then (λ k rest. taken (To k) rest)) ≡ taken (To n) s
+    at : (t : Bool) → (cond t (taken n s) (second n s) then (λ k rest. taken (Some k) rest)) ≡ taken (Some n) s
     at true = refl
     at false = rw (f n)
 
 -- a written line number, and a rest with no further digit
-to_read : (k : ℕ) (rest : List ℕ) → k < 1000 → NoDigit rest → to_in (numeral k ++ rest) ≡ taken (To k) rest
+to_read : (k : ℕ) (rest : List ℕ) → k < 1000 → NoDigit rest → to_in (numeral k ++ rest) ≡ taken (Some k) rest
 to_read k rest h f = at (ltb k 100) refl
   where
-    at : (t : Bool) → ltb k 100 ≡ t → to_in (numeral k ++ rest) ≡ taken (To k) rest
+    at : (t : Bool) → ltb k 100 ≡ t → to_in (numeral k ++ rest) ≡ taken (Some k) rest
     at true e =
         let l : k < 100 = ltb-true k 100 e in
         rw (two_digits k l, number_read k rest l (λ _. f)) (third_none k rest f)
@@ -61,7 +60,7 @@ to_read k rest h f = at (ltb k 100) refl
         let b : 10 ≤ n = omega arith in
         let q : n * 10 + (x - 48) ≡ k = omega arith in
         let w : numeral k ≡ decimal n ++ (x ∷ []) = subst (λ (j : ℕ). numeral j ≡ decimal n ++ (x ∷ [])) q (three_digits n x b a (omega arith) (omega arith)) in
-        let t : third n (x ∷ rest) ≡ taken (To k) rest = subst (λ (j : ℕ). third n (x ∷ rest) ≡ taken (To j) rest) q (third-digit n x rest b (digit_is x (omega arith) (omega arith))) in
+        let t : third n (x ∷ rest) ≡ taken (Some k) rest = subst (λ (j : ℕ). third n (x ∷ rest) ≡ taken (Some j) rest) q (third-digit n x rest b (digit_is x (omega arith) (omega arith))) in
         rw (w, append_assoc (decimal n) (x ∷ []) rest, number_read n (x ∷ rest) a (λ z. absurd (omega arith))) t
 
 -- what is taken is a line number as it is written
@@ -72,26 +71,26 @@ pub record LinkTaken (s : List ℕ) (l : Link) (rest : List ℕ) : Type 0 where
 third_taken : (n : ℕ) (s : List ℕ) (l : Link) (rest : List ℕ) → n < 100 → third n s ≡ taken l rest → LinkTaken (decimal n ++ s) l rest
 third_taken n s l rest h e = by_size (ltb n 10) refl e
   where
-    got : (k : ℕ) (r : List ℕ) → taken (To k) r ≡ taken l rest → k < 1000 → decimal n ++ s ≡ numeral k ++ r → LinkTaken (decimal n ++ s) l rest
+    got : (k : ℕ) (r : List ℕ) → taken (Some k) r ≡ taken l rest → k < 1000 → decimal n ++ s ≡ numeral k ++ r → LinkTaken (decimal n ++ s) l rest
     got k r p i w =
-        let a : To k ≡ l = cc in
+        let a : Some k ≡ l = cc in
         let b : r ≡ rest = cc in
         subst (λ (x : Link). LinkTaken (decimal n ++ s) x rest) a (record { short = i; split = w ∙ ap (λ (x : List ℕ). numeral k ++ x) b })
 
-    same : taken (To n) s ≡ taken l rest → LinkTaken (decimal n ++ s) l rest
+    same : taken (Some n) s ≡ taken l rest → LinkTaken (decimal n ++ s) l rest
     same p = got n s p (omega arith) (rw (two_digits n h))
 
-    by_second : 10 ≤ n → (t : List ℕ) → s ≡ t → (second n t then (λ k end. taken (To k) end)) ≡ taken l rest → LinkTaken (decimal n ++ s) l rest
+    by_second : 10 ≤ n → (t : List ℕ) → s ≡ t → (second n t then (λ k end. taken (Some k) end)) ≡ taken l rest → LinkTaken (decimal n ++ s) l rest
     by_second i [] q p = same (rw q p)
     by_second i (x ∷ t) q p = by_digit (digit x) refl p
       where
-        by_digit : (b : Bool) → digit x ≡ b → (cond b (taken (n * 10 + (x - 48)) t) (taken n (x ∷ t)) then (λ k end. taken (To k) end)) ≡ taken l rest → LinkTaken (decimal n ++ s) l rest
+        by_digit : (b : Bool) → digit x ≡ b → (cond b (taken (n * 10 + (x - 48)) t) (taken n (x ∷ t)) then (λ k end. taken (Some k) end)) ≡ taken l rest → LinkTaken (decimal n ++ s) l rest
         by_digit true d p =
             let f = digit_fits x d in
             got (n * 10 + (x - 48)) t p (omega arith) (rw (q, three_digits n x i h f.0 f.1, append_assoc (decimal n) (x ∷ []) t))
         by_digit false d p = same (rw q p)
 
-    by_size : (b : Bool) → ltb n 10 ≡ b → (cond b (taken n s) (second n s) then (λ k end. taken (To k) end)) ≡ taken l rest → LinkTaken (decimal n ++ s) l rest
+    by_size : (b : Bool) → ltb n 10 ≡ b → (cond b (taken n s) (second n s) then (λ k end. taken (Some k) end)) ≡ taken l rest → LinkTaken (decimal n ++ s) l rest
     by_size true b p = same p
     by_size false b p = by_second (ltb-false n 10 b) s refl p
 
@@ -113,16 +112,16 @@ no_dash (x ∷ s) {l} {rest} e = at (eqb x 45) refl
     at false h = refl
 
 pub link_read : (l : Link) (rest : List ℕ) → Linkable l → NoDigit rest → link_in (written_link l ++ rest) ≡ taken l rest
-link_read Dash rest h f = refl
-link_read (To k) rest h f = let t = to_read k rest h f in rw (no_dash (numeral k ++ rest) t) t
+link_read None rest h f = refl
+link_read (Some k) rest h f = let t = to_read k rest h f in rw (no_dash (numeral k ++ rest) t) t
 
 link_taken : (s : List ℕ) (l : Link) (rest : List ℕ) → link_in s ≡ taken l rest → LinkTaken s l rest
 link_taken s l rest e = at (byte_in 45 s) refl e
   where
-    at : (t : Taken ℕ) → byte_in 45 s ≡ t → ((t then (λ _ end. taken Dash end)) or to_in s) ≡ taken l rest → LinkTaken s l rest
+    at : (t : Taken ℕ) → byte_in 45 s ≡ t → ((t then (λ _ end. taken None end)) or to_in s) ≡ taken l rest → LinkTaken s l rest
     at (taken b r) q p =
         let w : s ≡ 45 ∷ r = byte_taken 45 s b r q in
-        let d : Dash ≡ l = cc in
+        let d : None ≡ l = cc in
         let f : r ≡ rest = cc in
         subst (λ (x : Link). LinkTaken s x rest) d (record { short = tt; split = w ∙ ap (λ (x : List ℕ). 45 ∷ x) f })
     at nothing q p = to_taken s l rest p

@@ -1,18 +1,17 @@
 -- Each text has one answer: 9, 10 or its lines; and what a refusal says is small.
-use Prim.Native.Nat.{ℕ, ◌<◌, ◌≤◌}
-use native.Mathlib.Decide.{dec_lt}
+use Prim.Native.Nat.{ℕ, ◌≤◌}
 use native.Mathlib.Omega.{arith}
 use mathlib.Core.List.{List}
 use mathlib.Core.Logic.{◌⊎◌, inl, inr}
 use mathlib.Core.Path.{◌≡◌, refl, sym, subst}
-use lib.ListN.{length}
+use Rattle.std.specs.Prelude.{Option, Some, None, MatchOption}
 use Rattle.sheets.specs.Lines.{line_limit}
-use Rattle.sheets.specs.Links.{FaultFree, SmallestFaulty, FirstFaulty, Loads, unread, faulty, fine, OneAnswer}
+use Rattle.sheets.specs.Links.{FaultFree, SmallestFaulty, Loads, unread, faulty, fine, OneAnswer}
 use Rattle.sheets.specs.Reading.{Reading, lines_read, refused, Reads}
 use Rattle.sheets.specs.declared.Line.{Line}
 use Rattle.sheets.proofs.Accepted.{few_lines, small as small-reading}
 use Rattle.sheets.proofs.Theorems.{one_reading}
-use Rattle.sheets.proofs.Faults.{faulty_inside, first_faulty_exists, smallest_unique, smallest_found, none_faulty}
+use Rattle.sheets.proofs.Faults.{faulty_inside, smallest_or_none, smallest_unique}
 
 module _ (text : List ℕ) where
   same_lines : {l m : List Line} → Reads text (lines_read l) → Reads text (lines_read m) → l ≡ m
@@ -36,11 +35,11 @@ module _ (text : List ℕ) where
 
   some : (a : Reading) → Reads text a → (b : Reading) × Loads text b
   some (refused n p) x = (refused n p, unread x)
-  some (lines_read l) x = at (first_faulty_exists l).0 (first_faulty_exists l).1 (dec_lt (first_faulty_exists l).0 (length l))
+  some (lines_read l) x = at (smallest_or_none l).0 (smallest_or_none l).1
     where
-      at : (i : ℕ) → FirstFaulty l i → Dec (i < length l) → (b : Reading) × Loads text b
-      at i f (yes h) = (refused 10 i, faulty x (smallest_found f h))
-      at i f (no h) = (lines_read l, fine x (none_faulty f (omega arith)))
+      at : (r : Option ℕ) → MatchOption r (FaultFree l) (SmallestFaulty l) → (b : Reading) × Loads text b
+      at (Some i) s = (refused 10 i, faulty x s)
+      at None f = (lines_read l, fine x f)
 
   pub one_answer : OneAnswer text
   one_answer =

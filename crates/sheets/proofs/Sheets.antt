@@ -1,21 +1,21 @@
 -- Sheets as a kind of line, and what reading a sheet's text gives as one of the ends of a scan.
-use mathlib.Core.Path.{◌≡◌, refl, sym, subst}
+use mathlib.Core.Path.{◌≡◌, refl, sym}
 use mathlib.Core.List.{List, [], ◌∷◌, ◌++◌}
 use Prim.Native.Nat.{ℕ, ◌≤◌}
-use native.Mathlib.Omega.{arith}
 use lib.ListN.{length}
+use Rattle.std.specs.Prelude.{Ok, Err}
 use Rattle.reader.specs.Parts.{nothing}
 use Rattle.reader.proofs.Scan.{Kind, reading}
 use Rattle.reader.proofs.Settled as settled
 use Rattle.reader.proofs.Settled.{Ends, ends}
 use Rattle.sheets.specs.declared.Line.{Line}
 use Rattle.sheets.specs.declared.Sheet.{Sheet}
-use Rattle.sheets.specs.declared.Read.{Read}
+use Rattle.table.specs.Refusals.{number_of, place_of}
+use Rattle.table.specs.declared.refusal.Refusal.{Refusal}
 use Rattle.sheets.specs.Lines.{line_limit, Right, lines_of}
 use Rattle.sheets.specs.Written.{written, written_lines}
 use Rattle.sheets.specs.Parts.{line_in}
 use Rattle.sheets.specs.Reading.{Reading, lines_read, refused, AllRight, none, more, Reads, empty, malformed, too_many, read, Answers}
-use Rattle.sheets.proofs.Loading.{gives_refusal}
 use Rattle.sheets.proofs.Written.{line_read, line_taken}
 
 pub no_line_in : line_in [] ≡ nothing
@@ -82,21 +82,9 @@ pub only : {text : List ℕ} {a : Reading} → Reads text a → a ≡ reading sh
 only r = settled.only sheets (ends_of r)
 
 -- the answers of `read_text`
-module _ (text : List ℕ) where
-  pub refuses : (place : ℕ) (r : Read) → (r.refusal ≡ 9) × (r.place ≡ place) × (r.sheet.lines ≡ 0) × (lines_of r.sheet ≡ []) → reading sheets text ≡ refused 9 place → Answers text r
-  refuses place r f e = record { answer = refused 9 place; reads = subst (λ (a : Reading). Reads text a) e (reads text); says = gives_refusal (λ q. omega arith) f }
+module _ {text : List ℕ} where
+  pub refuses : (r : Refusal) → reading sheets text ≡ refused (number_of r) (place_of r) → Answers text (Err r)
+  refuses r e = record { answer = reading sheets text; reads = reads text; says = record { gives = sym e; counted = tt } }
 
-  pub accepts : (s : Sheet) → s.lines ≡ length (lines_of s) → s.lines ≤ line_limit → reading sheets text ≡ lines_read (lines_of s) → Answers text (record { refusal = 0; place = 0; sheet = s })
-  accepts s c h e =
-      record {
-        answer = reading sheets text;
-        reads = reads text;
-        says =
-            record {
-              gives = sym e;
-              counted = c;
-              no_lines = λ q. absurd (q refl);
-              no_place = λ q. refl;
-              few = h;
-            };
-      }
+  pub accepts : (s : Sheet) → s.lines.len ≡ length (lines_of s) → s.lines.len ≤ line_limit → reading sheets text ≡ lines_read (lines_of s) → Answers text (Ok s)
+  accepts s c h e = record { answer = reading sheets text; reads = reads text; says = record { gives = sym e; counted = (c, h) } }

@@ -4,7 +4,7 @@ use mathlib.Core.List.{List}
 use Prim.Native.Nat.{ℕ}
 use Rattle.table.specs.Written.{line_feed}
 use Rattle.reader.specs.Parts.{taken, nothing, byte_in}
-use Rattle.sheets.specs.declared.Link.{Link}
+use Rattle.sheets.specs.Lines.{Link}
 use Rattle.sheets.specs.Parts.{name_in, field_in, line_in}
 
 module _ (s : List ℕ) where

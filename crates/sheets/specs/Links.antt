@@ -1,15 +1,15 @@
 -- 02, C-11, refusal 10: the lines that a sheet's fields name.
-use Rattle.std.specs.Prelude.{ℕ, ◌<◌, ◌≤◌, List, ◌≡◌, length}
+use Rattle.std.specs.Prelude.{ℕ, ◌<◌, ◌≤◌, List, ◌≡◌, length, Some, Result}
 use Rattle.meaning.specs.Table.{Side}
 use Rattle.sheets.specs.Lines.{link, line_at}
 use Rattle.sheets.specs.Reading.{Reading, lines_read, refused, Reads, Gives}
 use Rattle.sheets.specs.declared.Line.{Line}
-use Rattle.sheets.specs.declared.Link.TheVariants.{To}
-use Rattle.sheets.specs.declared.Read.{Read}
+use Rattle.sheets.specs.declared.Sheet.{Sheet}
+use Rattle.table.specs.declared.refusal.Refusal.{Refusal}
 
 -- The field of line i at the side s names line j.
 pub record Names (lines : List Line) (i : ℕ) (s : Side) (j : ℕ) : Type 0 where
-  pub names : link s (line_at lines i) ≡ To j
+  pub names : link s (line_at lines i) ≡ Some j
 
 -- Line i names a line not greater than itself or not there, or it isn't line 0 and is named never or more than once. Every line's fields count,
 -- and first and next of one line count apart.
@@ -28,12 +28,6 @@ pub record SmallestFaulty (lines : List Line) (i : ℕ) : Type 0 where
   pub faulty : Faulty lines i
   pub none_before : (k : ℕ) → k < i → Faulty lines k → ⊥
 
--- The smallest faulty line, or the number of lines.
-pub record FirstFaulty (lines : List Line) (i : ℕ) : Type 0 where
-  pub most : i ≤ length lines
-  pub faulty : i < length lines → Faulty lines i
-  pub none_before : (k : ℕ) → k < i → Faulty lines k → ⊥
-
 -- First 9, then 10; what passes is accepted: `lines_read` of its lines.
 pub data Loads (text : List ℕ) : Reading → Type 0 where
   unread : {n p : ℕ} → Reads text (refused n p) → Loads text (refused n p)
@@ -41,7 +35,7 @@ pub data Loads (text : List ℕ) : Reading → Type 0 where
   fine : {lines : List Line} → Reads text (lines_read lines) → FaultFree lines → Loads text (lines_read lines)
 
 -- What `load` promises for every text.
-pub record Loaded (text : List ℕ) (r : Read) : Type 0 where
+pub record Loaded (text : List ℕ) (r : Result Sheet Refusal) : Type 0 where
   pub answer : Reading
   pub loads : Loads text answer
   pub says : Gives r answer

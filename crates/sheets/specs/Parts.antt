@@ -1,24 +1,10 @@
 -- What the readers of one line of a sheet take off the front of a text, part by part. Only contracts inside this crate cite it; what a whole
 -- text gives is said in Reading without it.
-use Rattle.std.specs.Prelude.{ℕ, ◌≤◌, cond, List, ◌≡◌, leb, ltb, length, drop}
+use Rattle.std.specs.Prelude.{ℕ, cond, List, leb, ltb, Some, None}
 use Rattle.table.specs.Written.{tab, line_feed}
 use Rattle.reader.specs.Parts.{Taken, taken, nothing, ◌then◌, byte_in, second, number_in}
+use Rattle.sheets.specs.Lines.{Link}
 use Rattle.sheets.specs.declared.Line.{Line}
-use Rattle.sheets.specs.declared.Link.{Link}
-use Rattle.sheets.specs.declared.Link.TheVariants.{Dash, To}
-use Rattle.sheets.specs.declared.lines.Field.{Field}
-use Rattle.sheets.specs.declared.lines.Field.TheVariants as F
-use Rattle.sheets.specs.declared.lines.Found.{Found}
-use Rattle.sheets.specs.declared.lines.Found.TheVariants as L
-
--- A reader gives what is taken and the position in the whole text at which the rest begins.
-abbrev pub GivesLink : List ℕ → Field → Taken Link → Type 0
-GivesLink text (F.Is l next) t = (t ≡ taken l (drop next text)) × (next ≤ length text)
-GivesLink text F.Wrong t = t ≡ nothing
-
-abbrev pub GivesLine : List ℕ → Found → Taken Line → Type 0
-GivesLine text (L.Is l next) t = (t ≡ taken l (drop next text)) × (next ≤ length text)
-GivesLine text L.Wrong t = t ≡ nothing
 
 -- The first where it took something, else the second.
 infixl 20 ◌or◌
@@ -28,13 +14,13 @@ nothing or t = t
 
 -- One or two digits, and after two perhaps a third.
 abbrev pub third : ℕ → List ℕ → Taken Link
-third n s = cond (ltb n 10) (taken n s) (second n s) then (λ k rest. taken (To k) rest)
+third n s = cond (ltb n 10) (taken n s) (second n s) then (λ k rest. taken (Some k) rest)
 
 abbrev pub to_in : List ℕ → Taken Link
 to_in s = number_in s then third
 
 abbrev pub link_in : List ℕ → Taken Link
-link_in s = (byte_in 45 s then (λ _ rest. taken Dash rest)) or to_in s
+link_in s = (byte_in 45 s then (λ _ rest. taken None rest)) or to_in s
 
 -- A tab and a link.
 abbrev pub field_in : List ℕ → Taken Link

@@ -1,11 +1,13 @@
 -- 02, C-11, refusal 9: what reading a sheet gives. As with tables it is said by how lines are written: the text is some lines of right form,
 -- one after another as they are written, and then a rest.
-use Rattle.std.specs.Prelude.{ℕ, ◌<◌, ◌≤◌, cond, List, [], ◌∷◌, ◌++◌, ◌≡◌, eqb, length}
+use Rattle.std.specs.Prelude.{ℕ, ◌<◌, ◌≤◌, List, [], ◌∷◌, ◌++◌, ◌≡◌, length, Result, Ok, Err, IfOk}
 use Rattle.reader.specs.Reading.{Begins}
 use Rattle.sheets.specs.Lines.{line_limit, Right, lines_of}
 use Rattle.sheets.specs.Written.{written, written_lines}
 use Rattle.sheets.specs.declared.Line.{Line}
-use Rattle.sheets.specs.declared.Read.{Read}
+use Rattle.sheets.specs.declared.Sheet.{Sheet}
+use Rattle.table.specs.Refusals.{number_of, place_of}
+use Rattle.table.specs.declared.refusal.Refusal.{Refusal}
 
 -- The lines that were read, or a refusal's number and place.
 pub data Reading : Type 0 where
@@ -33,18 +35,20 @@ pub data Reads (text : List ℕ) : Reading → Type 0 where
   too_many : (lines : List Line) (rest : List ℕ) → After text lines rest → length lines ≡ line_limit → Begins rest → Reads text (refused 9 line_limit)
   read : (lines : List Line) → After text lines [] → 1 ≤ length lines → length lines ≤ line_limit → Reads text (lines_read lines)
 
--- 02's numbers for what the code returns: a refused sheet gives no lines, and an accepted one place 0.
-abbrev pub reading_of : Read → Reading
-reading_of r = cond (eqb r.refusal 0) (lines_read (lines_of r.sheet)) (refused r.refusal r.place)
+-- 02's numbers for what the code returns.
+abbrev pub reading_of : Result Sheet Refusal → Reading
+reading_of (Ok s) = lines_read (lines_of s)
+reading_of (Err r) = refused (number_of r) (place_of r)
 
-pub record Gives (r : Read) (a : Reading) : Type 0 where
+-- As many lines as are counted, and no more than there may be.
+abbrev pub Counted : Sheet → Type 0
+Counted s = (s.lines.len ≡ length (lines_of s)) × (s.lines.len ≤ line_limit)
+
+pub record Gives (r : Result Sheet Refusal) (a : Reading) : Type 0 where
   pub gives : reading_of r ≡ a
-  pub counted : r.sheet.lines ≡ length (lines_of r.sheet)
-  pub no_lines : (r.refusal ≡ 0 → ⊥) → r.sheet.lines ≡ 0
-  pub no_place : r.refusal ≡ 0 → r.place ≡ 0
-  pub few : r.sheet.lines ≤ line_limit
+  pub counted : IfOk r Counted
 
-pub record Answers (text : List ℕ) (r : Read) : Type 0 where
+pub record Answers (text : List ℕ) (r : Result Sheet Refusal) : Type 0 where
   pub answer : Reading
   pub reads : Reads text answer
   pub says : Gives r answer

@@ -1,21 +1,19 @@
 -- 02, C-11: the tree that a sheet is. Line 0 is the top.
-use Rattle.std.specs.Prelude.{ℕ, ◌<◌, List, [], ◌∷◌, ◌≡◌, length}
+use Rattle.std.specs.Prelude.{ℕ, ◌<◌, List, [], ◌∷◌, ◌≡◌, length, Some, None}
 use Rattle.meaning.specs.Table.{Side, Dir, down, up}
 use Rattle.meaning.specs.Tree.{Tree, nothing, node, Node, Place, below, name_of}
-use Rattle.sheets.specs.Lines.{line_at}
+use Rattle.sheets.specs.Lines.{Link, line_at}
 use Rattle.sheets.specs.Links.{Names}
 use Rattle.sheets.specs.declared.Line.{Line}
-use Rattle.sheets.specs.declared.Link.{Link}
-use Rattle.sheets.specs.declared.Link.TheVariants.{Dash, To}
 
 -- The tree that unfolds from a field through first and next.
 pub data Unfolds (lines : List Line) : Link → Tree → Type 0 where
-  at_dash : Unfolds lines Dash nothing
+  at_dash : Unfolds lines None nothing
   at_line : {i : ℕ} {a b : Tree} → Unfolds lines (line_at lines i).first a → Unfolds lines (line_at lines i).next b
-      → Unfolds lines (To i) (node (line_at lines i).name a b)
+      → Unfolds lines (Some i) (node (line_at lines i).name a b)
 
 abbrev pub IsTree : List Line → Tree → Type 0
-IsTree lines t = Unfolds lines (To 0) t
+IsTree lines t = Unfolds lines (Some 0) t
 
 -- Line i is the node at the place p.
 pub data At (lines : List Line) : ℕ → Place → Type 0 where

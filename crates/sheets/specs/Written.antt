@@ -1,18 +1,17 @@
 -- 02, C-11: how a sheet is written. One node a line: name, first child, next sibling, with `-` for none; fields parted by one tab, each line
 -- closed by a line feed. A line has no limit of bytes of its own.
-use Rattle.std.specs.Prelude.{ℕ, ◌+◌, ◌/◌, ◌%◌, cond, List, [], ◌∷◌, ◌++◌, ltb}
+use Rattle.std.specs.Prelude.{ℕ, ◌+◌, ◌/◌, ◌%◌, cond, List, [], ◌∷◌, ◌++◌, ltb, Some, None}
 use Rattle.table.specs.Written.{tab, line_feed, decimal}
+use Rattle.sheets.specs.Lines.{Link}
 use Rattle.sheets.specs.declared.Line.{Line}
-use Rattle.sheets.specs.declared.Link.{Link}
-use Rattle.sheets.specs.declared.Link.TheVariants.{Dash, To}
 
 -- A line number is decimal, of one to three digits, with no leading zero.
 unfoldable pub numeral : ℕ → List ℕ
 numeral n = cond (ltb n 100) (decimal n) ((48 + n / 100) ∷ ((48 + n / 10 % 10) ∷ ((48 + n % 10) ∷ [])))
 
 abbrev pub written_link : Link → List ℕ
-written_link Dash = 45 ∷ []
-written_link (To k) = numeral k
+written_link None = 45 ∷ []
+written_link (Some k) = numeral k
 
 -- A line, with its line feed.
 unfoldable pub written : Line → List ℕ

@@ -1,106 +1,57 @@
 // One line of a sheet: its name, its two links and its line feed.
-ghost use Rattle.std.specs.Prelude.{◌<◌, ◌≤◌, length, drop};
-ghost use Rattle.reader.specs.Parts.{Gives};
-ghost use Rattle.sheets.specs.Parts.{GivesLink, GivesLine, third, to_in, link_in, field_in, name_in, line_in};
+ghost use Rattle.std.specs.Prelude.{◌≡◌, ◌<◌, Some};
+ghost use Rattle.reader.specs.Parts.{taken, Takes};
+ghost use Rattle.sheets.specs.Parts.{third, link_in, field_in, name_in, line_in};
 
-use crate::{Line, Link};
-use reader::parts;
-use reader::parts::Part;
+use crate::Line;
+use reader::rest::Rest;
 use table::Table;
 
-// A link, and where the text goes on.
-#[derive(Clone, Copy)]
-pub enum Field {
-    Is(Link, usize),
-    Wrong,
-}
-
-// A line, and where the next one begins.
-#[derive(Clone, Copy)]
-pub enum Found {
-    Is(Line, usize),
-    Wrong,
-}
-
-pub fn read_line(text: &[u8], at: usize) -> Found
-    ensures { GivesLine text.now result (line_in (drop at text.now)) }
+#[tactic(auto, unfolding(crate::specs::Parts::line_in))]
+pub(crate) fn read_line(rest: &mut Rest) -> Option<Line>
+    ensures { Takes rest.old rest.new result (line_in rest.old) }
 {
-    let Part::Is(name, a) = read_name(text, at) else {
-        return Found::Wrong;
-    };
-    let Field::Is(first, b) = read_field(text, a) else {
-        return Found::Wrong;
-    };
-    let Field::Is(next, c) = read_field(text, b) else {
-        return Found::Wrong;
-    };
-    let Part::Is(_, end) = parts::read_byte(text, c, b'\n') else {
-        return Found::Wrong;
-    };
-    Found::Is(
-        Line {
-            name: name,
-            first: first,
-            next: next,
-        },
-        end,
-    )
+    let name = read_name(rest)?;
+    let first = read_field(rest)?;
+    let next = read_field(rest)?;
+    rest.byte(b'\n')?;
+    Some(Line { name, first, next })
 }
 
-fn read_name(text: &[u8], at: usize) -> Part
-    ensures { Gives text.now result (name_in (drop at text.now)) }
+fn read_name(rest: &mut Rest) -> Option<u8>
+    ensures { Takes rest.old rest.new result (name_in rest.old) }
 {
-    let Part::Is(name, next) = parts::read_number(text, at) else {
-        return Part::Wrong;
-    };
-    if name < Table::NAMES {
-        return Part::Is(name, next);
+    rest.number().filter(|name| *name < Table::NAMES)
+}
+
+// A tab and a link.
+fn read_field(rest: &mut Rest) -> Option<Option<u16>>
+    ensures { Takes rest.old rest.new result (field_in rest.old) }
+{
+    rest.byte(b'\t')?;
+    read_link(rest)
+}
+
+// A line's number, or `-` for none.
+fn read_link(rest: &mut Rest) -> Option<Option<u16>>
+    ensures { Takes rest.old rest.new result (link_in rest.old) }
+{
+    if rest.byte(b'-').is_some() {
+        return Some(None);
     }
-    Part::Wrong
-}
-
-fn read_field(text: &[u8], at: usize) -> Field
-    ensures { GivesLink text.now result (field_in (drop at text.now)) }
-{
-    let Part::Is(_, from) = parts::read_byte(text, at, b'\t') else {
-        return Field::Wrong;
-    };
-    read_link(text, from)
-}
-
-fn read_link(text: &[u8], at: usize) -> Field
-    ensures { GivesLink text.now result (link_in (drop at text.now)) }
-{
-    let Part::Is(_, next) = parts::read_byte(text, at, b'-') else {
-        return read_to(text, at);
-    };
-    Field::Is(Link::Dash, next)
-}
-
-fn read_to(text: &[u8], at: usize) -> Field
-    ensures { GivesLink text.now result (to_in (drop at text.now)) }
-{
-    let Part::Is(n, next) = parts::read_number(text, at) else {
-        return Field::Wrong;
-    };
-    read_third(text, next, n)
+    let n = rest.number()?;
+    Some(Some(read_third(rest, n)))
 }
 
 // The digit after two others, where there is one.
-fn read_third(text: &[u8], at: usize, n: u8) -> Field
-    requires { (n < 100) × (at ≤ length text.now) }
-    ensures { GivesLink text.now result (third n (drop at text.now)) }
+fn read_third(rest: &mut Rest, n: u8) -> u16
+    requires { n < 100 }
+    ensures { third n rest.old ≡ taken (Some result) rest.new }
 {
-    let k = n as u16;
-    if k < 10 {
-        return Field::Is(Link::To(k), at);
+    let two = u16::from(n);
+    if two < 10 {
+        return two;
     }
-    if text.len() <= at {
-        return Field::Is(Link::To(k), at);
-    }
-    let b = text[at];
-    if parts::is_digit(b) {
-        return Field::Is(Link::To(k * 10 + (b - b'0') as u16), at + 1);
-    }
-    Field::Is(Link::To(k), at)
+    rest.digit()
+        .map_or(two, |third| two * 10 + u16::from(third))
 }

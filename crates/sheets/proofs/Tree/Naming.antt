@@ -10,14 +10,13 @@ use lib.ListN.{length}
 use Rattle.meaning.proofs.Sides.{sides}
 use Rattle.meaning.specs.Table.{Side, first, next}
 use Rattle.meaning.proofs.Outcome.Met.{some_dec, side_dec}
-use Rattle.sheets.specs.Lines.{link, line_at}
+use Rattle.sheets.specs.Lines.{Link, link, line_at}
 use Rattle.sheets.specs.Links.{Names, not_greater, not_there, never_named, named_by_two, named_twice, FaultFree}
 use Rattle.sheets.specs.declared.Line.{Line}
-use Rattle.sheets.specs.declared.Link.{Link}
-use Rattle.sheets.specs.declared.Link.TheVariants.{Dash, To}
+use Rattle.std.specs.Prelude.{None, Some}
 use Rattle.sheets.proofs.Named.{dash_not_to, names_inside}
 
-one_line : {j k : ℕ} → To j ≡ To k → j ≡ k
+one_line : {j k : ℕ} → Some j ≡ Some k → j ≡ k
 one_line e = cc
 
 module _ {lines : List Line} where
@@ -31,8 +30,8 @@ module _ {lines : List Line} where
   names_dec i s j = at (link s (line_at lines i)) refl
     where
       at : (l : Link) → link s (line_at lines i) ≡ l → Dec (Names lines i s j)
-      at Dash e = no (λ a. dash_not_to (sym e ∙ a.names))
-      at (To k) e = Dec.of_iff (λ (q : k ≡ j). record { names = e ∙ ap To q }, λ a. one_line (sym e ∙ a.names)) (ℕ_discrete k j)
+      at None e = no (λ a. dash_not_to (sym e ∙ a.names))
+      at (Some k) e = Dec.of_iff (λ (q : k ≡ j). record { names = e ∙ ap Some q }, λ a. one_line (sym e ∙ a.names)) (ℕ_discrete k j)
 
 module _ {lines : List Line} (free : FaultFree lines) where
   pub names_greater : {i j : ℕ} {s : Side} → Names lines i s j → i < j

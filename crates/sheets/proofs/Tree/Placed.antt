@@ -10,12 +10,12 @@ use Rattle.meaning.proofs.Solution.Order.{parent_node}
 use Rattle.sheets.specs.Links.{FaultFree}
 use Rattle.sheets.specs.Tree.{Unfolds, IsTree, At, at_top, at_child}
 use Rattle.sheets.specs.declared.Line.{Line}
-use Rattle.sheets.specs.declared.Link.TheVariants.{To}
+use Rattle.std.specs.Prelude.{Some}
 use Rattle.sheets.proofs.Tree.Naming.{names_one, names_greater, named_there, namer, namer_one, side_one}
 use Rattle.sheets.proofs.Tree.Unfolded.{unfolds_child, node_named}
 
 module _ {lines : List Line} where
-  pub at_below : {t : Tree} {i : ℕ} {p : Place} → IsTree lines t → At lines i p → Unfolds lines (To i) (below t p)
+  pub at_below : {t : Tree} {i : ℕ} {p : Place} → IsTree lines t → At lines i p → Unfolds lines (Some i) (below t p)
   at_below u at_top = u
   at_below u (at_child s a e) = rw e.names at (unfolds_child s (at_below u a))
 
