@@ -1,7 +1,6 @@
 -- The rules and the steps of 01: what a rule gives is joined, and each step of a cancelling walk is given by a rule.
-use Prim.Native.Nat.{ℕ, ◌<◌, ◌≤◌}
-use native.Mathlib.Omega.{arith}
-use mathlib.Core.Bool.{◌||◌}
+use Prim.Native.Nat.{ℕ, ◌<◌}
+use mathlib.Core.Bool.{Bool, ◌||◌}
 use mathlib.Core.List.{List}
 use mathlib.Core.Logic.{◌⊎◌, inl, inr, ⊎_elim}
 use mathlib.Core.Path.{◌≡◌, refl, ap, sym, ◌∙◌, subst}
@@ -12,7 +11,7 @@ use Rattle.meaning.specs.Table.{first, next, Dir, down, up, converse, Table, Row
 use Rattle.meaning.specs.Loop.{Joined, by_flat, by_turn, by_wrap, by_join}
 use Rattle.meaning.proofs.Tests.{Is, false≢true, or_iff, and_iff, eqb_iff}
 use Rattle.table.specs.Rows.{dir_of}
-use Rattle.loops.specs.Closing.{refers_to, number, opposite, back_to, marked, turns_at, wraps, meets_at, meets, given, Marks}
+use Rattle.loops.specs.Closing.{refers_to, number, opposite, back_to, marked, turns_at, wraps, meets_at, meets, given}
 use Rattle.loops.proofs.Search.{some_to, some_from}
 
 -- a reference
@@ -69,59 +68,63 @@ back_to_lem d j (stop_row e) h = false≢true h
 back_from : (d : Dir) (j : ℕ) (r : Row) → r ≡ go_row (converse d) j → Is (back_to d j r)
 back_from d j r e = rw e ((and_iff (opposite d (converse d)) (eqb j j)).1 (eq-eqb (number (converse d)) (number (converse d)) refl, eq-eqb j j refl))
 
-module _ (w : ℕ) (rows : Table) (m : List ℕ) where
+-- nothing but joined pairs is found, with how they are joined
+pub record Marks (rows : Table) (m : List (List Bool)) : Type 0 where
+  pub sound : (i j : ℕ) → Is (marked m i j) → Joined rows i j
+
+module _ (rows : Table) (m : List (List Bool)) where
   -- what a rule gives is joined
-  module _ (few : length rows ≤ w) (marks : Marks w rows m) (i j : ℕ) (inside : j < w) where
-    turns_sound : (d : Dir) (k l : ℕ) → l < length rows → row_at rows i ≡ go_row d k → Is (turns_at w rows m d k j l) → Joined rows i j
+  module _ (marks : Marks rows m) (i j : ℕ) where
+    turns_sound : (d : Dir) (k l : ℕ) → l < length rows → row_at rows i ≡ go_row d k → Is (turns_at rows m d k j l) → Joined rows i j
     turns_sound d k l h e t =
-        let x = (and_iff (eqb k l || marked w m k l) (back_to d j (row_at rows l))).0 t in
+        let x = (and_iff (eqb k l || marked m k l) (back_to d j (row_at rows l))).0 t in
         let f : row_at rows l ≡ go_row (converse d) j = back_to_lem d j (row_at rows l) x.1 in
         ⊎_elim
         (λ (q : Is (eqb k l)). let p : k ≡ l = (eqb_iff k l).0 q in by_turn k d e (rw p f))
-        (λ (q : Is (marked w m k l)). by_wrap k l d e (marks.sound k l (omega arith) q) f)
-        ((or_iff (eqb k l) (marked w m k l)).0 x.0)
+        (λ (q : Is (marked m k l)). by_wrap k l d e (marks.sound k l q) f)
+        ((or_iff (eqb k l) (marked m k l)).0 x.0)
 
-    wraps_sound : (r : Row) → row_at rows i ≡ r → Is (wraps w rows m r j) → Joined rows i j
+    wraps_sound : (r : Row) → row_at rows i ≡ r → Is (wraps rows m r j) → Joined rows i j
     wraps_sound yes_row e h = false≢true h
     wraps_sound no_row e h = false≢true h
     wraps_sound (is_row n) e h = false≢true h
     wraps_sound (isnot_row n) e h = false≢true h
     wraps_sound (any_row a b) e h = false≢true h
     wraps_sound (all_row a b) e h = false≢true h
-    wraps_sound (go_row d k) e h = let x = some_to (turns_at w rows m d k j) (length rows) h in turns_sound d k x.0 x.1 e x.2
+    wraps_sound (go_row d k) e h = let x = some_to (turns_at rows m d k j) (length rows) h in turns_sound d k x.0 x.1 e x.2
     wraps_sound (stop_row d) e h = false≢true h
 
-    meets_sound : Is (meets w (length rows) m i j) → Joined rows i j
+    meets_sound : Is (meets (length rows) m i j) → Joined rows i j
     meets_sound h =
-        let x = some_to (meets_at w m i j) (length rows) h in
+        let x = some_to (meets_at m i j) (length rows) h in
         let k = x.0 in
-        let y = (and_iff (marked w m i k) (marked w m k j)).0 x.2 in
-        by_join (marks.sound i k (omega (arith, x.1)) y.0) (marks.sound k j inside y.1)
+        let y = (and_iff (marked m i k) (marked m k j)).0 x.2 in
+        by_join (marks.sound i k y.0) (marks.sound k j y.1)
 
-    pub given_sound : Is (given w rows m i j) → Joined rows i j
+    pub given_sound : Is (given rows m i j) → Joined rows i j
     unfolding given
     given_sound h =
         ⊎_elim
         (λ r. by_flat (refers_to_lem i j r))
-        (λ g. ⊎_elim (λ r. wraps_sound (row_at rows i) refl r) (λ r. meets_sound r) ((or_iff (wraps w rows m (row_at rows i) j) (meets w (length rows) m i j)).0 g))
-        ((or_iff (refers_to j (row_at rows i)) (wraps w rows m (row_at rows i) j || meets w (length rows) m i j)).0 h)
+        (λ g. ⊎_elim (λ r. wraps_sound (row_at rows i) refl r) (λ r. meets_sound r) ((or_iff (wraps rows m (row_at rows i) j) (meets (length rows) m i j)).0 g))
+        ((or_iff (refers_to j (row_at rows i)) (wraps rows m (row_at rows i) j || meets (length rows) m i j)).0 h)
 
   -- each step is given
   module _ (i j : ℕ) where
-    pub given_flat : Refers rows i j → Is (given w rows m i j)
+    pub given_flat : Refers rows i j → Is (given rows m i j)
     unfolding given
-    given_flat r = (or_iff (refers_to j (row_at rows i)) (wraps w rows m (row_at rows i) j || meets w (length rows) m i j)).1 (inl (refers_from i j r))
+    given_flat r = (or_iff (refers_to j (row_at rows i)) (wraps rows m (row_at rows i) j || meets (length rows) m i j)).1 (inl (refers_from i j r))
 
-    later : Is (wraps w rows m (row_at rows i) j) ⊎ Is (meets w (length rows) m i j) → Is (given w rows m i j)
+    later : Is (wraps rows m (row_at rows i) j) ⊎ Is (meets (length rows) m i j) → Is (given rows m i j)
     unfolding given
-    later h = (or_iff (refers_to j (row_at rows i)) (wraps w rows m (row_at rows i) j || meets w (length rows) m i j)).1 (inr ((or_iff (wraps w rows m (row_at rows i) j) (meets w (length rows) m i j)).1 h))
+    later h = (or_iff (refers_to j (row_at rows i)) (wraps rows m (row_at rows i) j || meets (length rows) m i j)).1 (inr ((or_iff (wraps rows m (row_at rows i) j) (meets (length rows) m i j)).1 h))
 
     -- by no step or a pair found from k to l
-    pub given_wrap : (d : Dir) (k l : ℕ) → l < length rows → row_at rows i ≡ go_row d k → (k ≡ l) ⊎ Is (marked w m k l) → row_at rows l ≡ go_row (converse d) j → Is (given w rows m i j)
+    pub given_wrap : (d : Dir) (k l : ℕ) → l < length rows → row_at rows i ≡ go_row d k → (k ≡ l) ⊎ Is (marked m k l) → row_at rows l ≡ go_row (converse d) j → Is (given rows m i j)
     given_wrap d k l h e n f =
-        let t : Is (turns_at w rows m d k j l) = (and_iff (eqb k l || marked w m k l) (back_to d j (row_at rows l))).1
-        ((or_iff (eqb k l) (marked w m k l)).1 (⊎_elim (λ q. inl (eq-eqb k l q)) (λ q. inr q) n), back_from d j (row_at rows l) f) in
-        later (inl (rw e (some_from (turns_at w rows m d k j) (length rows) l h t)))
+        let t : Is (turns_at rows m d k j l) = (and_iff (eqb k l || marked m k l) (back_to d j (row_at rows l))).1
+        ((or_iff (eqb k l) (marked m k l)).1 (⊎_elim (λ q. inl (eq-eqb k l q)) (λ q. inr q) n), back_from d j (row_at rows l) f) in
+        later (inl (rw e (some_from (turns_at rows m d k j) (length rows) l h t)))
 
-    pub given_join : (k : ℕ) → k < length rows → Is (marked w m i k) → Is (marked w m k j) → Is (given w rows m i j)
-    given_join k h a b = later (inr (some_from (meets_at w m i j) (length rows) k h ((and_iff (marked w m i k) (marked w m k j)).1 (a, b))))
+    pub given_join : (k : ℕ) → k < length rows → Is (marked m i k) → Is (marked m k j) → Is (given rows m i j)
+    given_join k h a b = later (inr (some_from (meets_at m i j) (length rows) k h ((and_iff (marked m i k) (marked m k j)).1 (a, b))))

@@ -1,30 +1,25 @@
--- From what the tests find to what is judged.
-use Prim.Native.Nat.{ℕ, ◌<◌, ◌≤◌}
-use native.Mathlib.Omega.{arith}
+-- From the pairs that the rules give to what is judged.
+use Prim.Native.Nat.{ℕ}
+use mathlib.Core.Bool.{Bool}
+use mathlib.Core.List.{List}
 use mathlib.Core.Path.{◌≡◌}
 use lib.ListN.{length}
-use Rattle.meaning.specs.Table.{Table, InRange, size, size_limit}
-use Rattle.loops.specs.Closing.{FirstOnLoop}
-use Rattle.loops.specs.Judged.{Judged, fine, missing, looping, large}
-use Rattle.loops.specs.Missing.{first_missing}
-use Rattle.loops.specs.declared.Checked.TheVariants.{Fine, Missing, Looping, Large}
-use Rattle.loops.proofs.Closed.{free_of_loops}
-use Rattle.loops.proofs.Naming.{missing_found, none_missing}
+use Rattle.std.specs.Prelude.{Some, None}
+use Rattle.meaning.specs.Loop.{LoopFree}
+use Rattle.meaning.specs.Table.{InRange}
+use Rattle.table.specs.Rows.{table_in}
+use Rattle.table.specs.declared.Row as T
+use Rattle.counts.proofs.Laws.{table_long}
+use Rattle.loops.specs.Closing.{Sound, AllDone, first_marked}
+use Rattle.loops.specs.Judged.{Judged, Looping, looping}
+use Rattle.loops.proofs.Closed.{smallest, none_looping}
+use Rattle.loops.proofs.Exists.{marks_of}
 
-module _ (rows : Table) (i : ℕ) where
-  module _ (first : i ≡ first_missing rows) where
-    pub judged_missing : i < length rows → Judged rows (Missing i)
-    judged_missing h = rw first (missing (missing_found rows (omega arith)))
+-- `xs` are the rows that the pairs have, which are the table's
+module _ (rows xs : List T.Row) (m : List (List Bool)) (same : xs ≡ rows) (sound : Sound (table_in xs) m) (range : InRange (table_in rows)) (closed : AllDone (table_in rows) m) where
+  pub judged_looping : (i : ℕ) → first_marked (length xs) m ≡ Some i → Judged (table_in rows) (Looping i)
+  judged_looping i e =
+      looping range (smallest (table_in rows) m range closed i (marks_of (table_in rows) range m (rw same at sound)) (rw (same, ← (table_long rows)) at e))
 
-    pub judged_range : length rows ≤ i → InRange rows
-    judged_range h = none_missing rows (omega arith)
-
-  module _ (range : InRange rows) (first : FirstOnLoop rows i) where
-    pub judged_looping : i < length rows → Judged rows (Looping i)
-    judged_looping h = looping range (record { on_loop = first.on_loop h; none_before = first.none_before })
-
-    pub judged_large : length rows ≤ i → size_limit < size rows → Judged rows Large
-    judged_large h l = large range (free_of_loops first h) l
-
-    pub judged_fine : length rows ≤ i → size rows ≤ size_limit → Judged rows Fine
-    judged_fine h l = fine range (free_of_loops first h) l
+  pub loop_free : first_marked (length xs) m ≡ None → LoopFree (table_in rows)
+  loop_free e = none_looping (table_in rows) m range closed (rw (same, ← (table_long rows)) at e)

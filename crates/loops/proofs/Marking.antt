@@ -1,56 +1,68 @@
 -- A new mark: one pair more is found, and it is joined.
-use Prim.Native.Nat.{ℕ, zero, suc, ◌+◌, ◌*◌, ◌/◌, ◌%◌, ◌<◌, ◌≤◌}
+use Prim.Native.Nat.{ℕ, zero, suc, ◌+◌, ◌*◌, ◌<◌, ◌≤◌}
 use native.Mathlib.Decide.{ℕ_discrete}
 use native.Mathlib.Omega.{arith}
 use mathlib.Core.Bool.{Bool, true, false, cond}
-use mathlib.Core.List.{List, [], ◌∷◌}
-use mathlib.Core.Path.{◌≡◌, ap, sym, ◌∙◌}
-use borrow.Author.Tests.{lt-ltb}
-use lib.Arith.{digits_lt, digits_div, digits_mod}
-use lib.Dec.{eqb, ltb}
+use mathlib.Core.List.{List, []}
+use mathlib.Core.Path.{◌≡◌, refl, ◌∙◌}
 use lib.ListN.{length, get_or, set, replicate, length-set, length-replicate}
-use lib.Seq.{get_or-set_other}
-use Rattle.meaning.specs.Loop.{Joined}
-use Rattle.meaning.specs.Table.{Table}
-use Rattle.meaning.proofs.Tests.{Is, false≢true, and_iff}
-use Rattle.counts.proofs.Grown.{zeros}
-use Rattle.loops.specs.Closing.{marked, pairs, Marks}
+use lib.Seq.{get_or-set_other, get_or-set_same}
+use Rattle.std.specs.Prelude.{count_by}
+use Rattle.std.proofs.lemmas.List.Sums.{sum_by-set, sum_by-le, count_by-le-length}
+use Rattle.std.proofs.lemmas.List.Elements.{All-from_get_or}
+use Rattle.meaning.proofs.Tests.{Is}
+use Rattle.loops.specs.Closing.{marked, with_pair, pairs, Square}
 
-pub pairs_most : (m : List ℕ) → pairs m ≤ length m
-unfolding pairs
-pairs_most [] = omega arith
-pairs_most (x ∷ m) = at (eqb x 1) (pairs_most m)
+pub square_none : (w : ℕ) → Square w (replicate w (replicate w false))
+square_none w = record { high = length-replicate w (replicate w false); wide = λ i h. wide w i h }
   where
-    at : (b : Bool) → pairs m ≤ length m → cond b 1 0 + pairs m ≤ suc (length m)
-    at true h = omega arith
-    at false h = omega arith
+    wide : (v i : ℕ) → i < v → length (get_or (replicate v (replicate w false)) i []) ≡ w
+    wide zero i h = absurd (omega arith)
+    wide (suc v) zero h = length-replicate w false
+    wide (suc v) (suc i) h = wide v i (omega arith)
 
-pub pairs_more : (m : List ℕ) (p : ℕ) → p < length m → eqb (get_or m p 0) 1 ≡ false → pairs (set m p 1) ≡ pairs m + 1
+pub square_more : (w : ℕ) (m : List (List Bool)) → Square w m → (i j : ℕ) → i < w → Square w (with_pair m i j)
+square_more w m s i j low = record { high = length-set m i (set (get_or m i []) j true) ∙ s.high; wide = λ k h. at k h (ℕ_discrete k i) }
+  where
+    at : (k : ℕ) → k < w → Dec (k ≡ i) → length (get_or (with_pair m i j) k []) ≡ w
+    at k h (yes q) = rw (q, get_or-set_same m i (set (get_or m i []) j true) [] (omega (arith, s.high))) (length-set (get_or m i []) j true ∙ s.wide i low)
+    at k h (no n) = rw (get_or-set_other m i k (set (get_or m i []) j true) [] n) (s.wide k h)
+
+pub pairs_most : (w : ℕ) (m : List (List Bool)) → Square w m → pairs m ≤ w * w
 unfolding pairs
-pairs_more [] p h e = absurd (omega arith)
-pairs_more (x ∷ m) zero h e = rw e (omega arith)
-pairs_more (x ∷ m) (suc p) h e = omega (arith, pairs_more m p (omega arith) e)
+pairs_most w m s =
+    rw s.high at (sum_by-le (λ (l : List Bool). count_by (λ b. b) l) w m (All-from_get_or (λ (l : List Bool). count_by (λ b. b) l ≤ w) m [] (λ i h. omega (arith, s.wide i (omega (arith, s.high)), count_by-le-length (λ (b : Bool). b) (get_or m i [])))))
 
 -- nothing is found at first
-pub marks_none : (w : ℕ) (rows : Table) → Marks w rows (replicate (w * w) 0)
-marks_none w rows = record {
-  long = length-replicate (w * w) 0;
-  sound = λ i j h e. false≢true (rw (zeros (w * w) (i * w + j)) at ((and_iff (ltb i w) (eqb (get_or (replicate (w * w) 0) (i * w + j) 0) 1)).0 e).1);
-}
+pub marked_none : (w v i j : ℕ) → marked (replicate w (replicate v false)) i j ≡ false
+marked_none zero v i j = refl
+marked_none (suc w) v zero j = blank v j
+  where
+    blank : (v j : ℕ) → get_or (replicate v false) j false ≡ false
+    blank zero j = refl
+    blank (suc v) zero = refl
+    blank (suc v) (suc j) = blank v j
+marked_none (suc w) v (suc i) j = marked_none w v i j
 
-module _ (w : ℕ) (rows : Table) (m : List ℕ) (marks : Marks w rows m) (i j : ℕ) (low : i < w) (inside : j < w) where
-  within : i * w + j < length m
-  within = rw marks.long (digits_lt low inside)
-
-  pub marking : Joined rows i j → Marks w rows (set m (i * w + j) 1)
-  marking g = record { long = length-set m (i * w + j) 1 ∙ marks.long; sound = λ k l h e. at k l h e (ℕ_discrete (k * w + l) (i * w + j)) }
+module _ (m : List (List Bool)) (i j : ℕ) (low : i < length m) (inside : j < length (get_or m i [])) where
+  -- the pair of i and j, and no other, is new
+  pub marked_new : (P : ℕ → ℕ → Type 0) → P i j → ((k l : ℕ) → Is (marked m k l) → P k l) → (k l : ℕ) → Is (marked (with_pair m i j) k l) → P k l
+  marked_new P p old k l e = at (ℕ_discrete k i) e
     where
-      at : (k l : ℕ) → l < w → Is (marked w (set m (i * w + j) 1) k l) → Dec (k * w + l ≡ i * w + j) → Joined rows k l
-      at k l h e (yes q) =
-          let a : k ≡ i = sym (digits_div k h) ∙ (ap (λ (z : ℕ). z / w) q ∙ digits_div i inside) in
-          let b : l ≡ j = sym (digits_mod k h) ∙ (ap (λ (z : ℕ). z % w) q ∙ digits_mod i inside) in
-          rw (a, b) g
-      at k l h e (no n) = marks.sound k l h (rw (get_or-set_other m (i * w + j) (k * w + l) 1 0 n) at e)
+      row : List Bool
+      row = set (get_or m i []) j true
 
-  pub marked_more : marked w m i j ≡ false → pairs (set m (i * w + j) 1) ≡ pairs m + 1
-  marked_more e = pairs_more m (i * w + j) within (rw (lt-ltb i w low) at e)
+      column : Dec (l ≡ j) → Is (get_or row l false) → P i l
+      column (yes q) f = rw q p
+      column (no n) f = old i l (rw (get_or-set_other (get_or m i []) j l true false n) at f)
+
+      at : Dec (k ≡ i) → Is (marked (with_pair m i j) k l) → P k l
+      at (yes q) f = rw q (column (ℕ_discrete l j) (rw (q, get_or-set_same m i row [] low) at f))
+      at (no n) f = old k l (rw (get_or-set_other m i k row [] n) at f)
+
+  pub pairs_more : marked m i j ≡ false → pairs (with_pair m i j) ≡ pairs m + 1
+  unfolding pairs
+  pairs_more e =
+      let a = sum_by-set (λ (l : List Bool). count_by (λ b. b) l) m i (set (get_or m i []) j true) [] low in
+      let b = sum_by-set (λ (b : Bool). cond b 1 0) (get_or m i []) j true false inside in
+      omega (arith, a, rw e at b)

@@ -1,19 +1,20 @@
 -- Refusal 5: the test of a row finds a row that it names and that isn't there, and the first row found is the smallest.
 use Prim.Native.Nat.{ℕ, ◌<◌, ◌≤◌}
-use native.Mathlib.Omega.{arith}
 use mathlib.Core.Bool.{Bool, true, false, ◌||◌}
 use mathlib.Core.Logic.{inl, inr, ⊎_elim}
 use mathlib.Core.Path.{◌≡◌, refl, sym, ◌∙◌}
 use borrow.Author.Tests.{leb-true, leb-false}
 use lib.Dec.{leb}
 use lib.ListN.{length}
+use Rattle.std.specs.Prelude.{Some, None}
+use Rattle.std.proofs.lemmas.List.Quantifiers.{position-Some}
 use Rattle.meaning.specs.Table.{Table, Row, row_at, yes_row, no_row, is_row, isnot_row, any_row, all_row, go_row, stop_row, any_left, any_right, all_left, all_right, InRange}
 use Rattle.meaning.proofs.Tests.{Is, false≢true, or_iff}
 use Rattle.counts.proofs.Looks.{go_look, look_inside}
 use Rattle.counts.proofs.Rank.{refers_there}
 use Rattle.loops.specs.Judged.{Names, referring, looking, SmallestMissing}
-use Rattle.loops.specs.Missing.{misses, misses_at, first_missing}
-use Rattle.loops.proofs.Search.{first_passes, first_before}
+use Rattle.loops.specs.Missing.{misses, first_missing}
+use Rattle.loops.proofs.Search.{position_none}
 
 module _ (rows : Table) where
   -- a name of row i beyond the last row
@@ -39,29 +40,31 @@ module _ (rows : Table) where
   misses_to i (go_row d a) e h = (a, looking e, leb-true (length rows) a h)
   misses_to i (stop_row d) e h = false≢true h
 
-  misses_from : (i j : ℕ) → Names rows i j → Is (leb (length rows) j) → Is (misses_at rows i)
+  abbrev misses_at : ℕ → Bool
+  misses_at i = misses (length rows) (row_at rows i)
+
+  misses_from : (i j : ℕ) → Names rows i j → Is (leb (length rows) j) → Is (misses_at i)
   misses_from i j (referring (any_left {k = k} e)) h = rw e ((or_iff (leb (length rows) j) (leb (length rows) k)).1 (inl h))
   misses_from i j (referring (any_right {j = k} e)) h = rw e ((or_iff (leb (length rows) k) (leb (length rows) j)).1 (inr h))
   misses_from i j (referring (all_left {k = k} e)) h = rw e ((or_iff (leb (length rows) j) (leb (length rows) k)).1 (inl h))
   misses_from i j (referring (all_right {j = k} e)) h = rw e ((or_iff (leb (length rows) k) (leb (length rows) j)).1 (inr h))
   misses_from i j (looking e) h = rw e h
 
-  not_missed : (i j : ℕ) → misses_at rows i ≡ false → Names rows i j → j < length rows
+  not_missed : (i j : ℕ) → misses_at i ≡ false → Names rows i j → j < length rows
   not_missed i j e n = at (leb (length rows) j) refl
     where
       at : (b : Bool) → leb (length rows) j ≡ b → j < length rows
       at true q = false≢true (sym e ∙ misses_from i j n q)
       at false q = leb-false (length rows) j q
 
-  pub missing_found : first_missing rows < length rows → SmallestMissing rows (first_missing rows)
+  pub missing_found : (i : ℕ) → first_missing rows ≡ Some i → SmallestMissing rows i
   unfolding Beyond
-  missing_found h = record {
-    missing = misses_to (first_missing rows) (row_at rows (first_missing rows)) refl (first_passes (misses_at rows) (length rows) h);
-    none_before = λ k l j n. not_missed k j (first_before (misses_at rows) (length rows) k l) n;
-  }
+  missing_found i e =
+      let x = position-Some (misses (length rows)) rows i no_row e in
+      record { missing = misses_to i (row_at rows i) refl x.1; none_before = λ k l j n. not_missed k j (x.2 k l) n }
 
-  pub none_missing : length rows ≤ first_missing rows → InRange rows
-  none_missing h = record {
-    referred = λ {i} {j} r. not_missed i j (first_before (misses_at rows) (length rows) i (omega (arith, refers_there i r))) (referring r);
-    looked = λ i {j} e. not_missed i j (first_before (misses_at rows) (length rows) i (omega (arith, look_inside rows i (go_look rows i e)))) (looking e);
+  pub none_missing : first_missing rows ≡ None → InRange rows
+  none_missing e = record {
+    referred = λ {i} {j} r. not_missed i j (position_none (misses (length rows)) rows e i no_row (refers_there i r)) (referring r);
+    looked = λ i {j} f. not_missed i j (position_none (misses (length rows)) rows e i no_row (look_inside rows i (go_look rows i f))) (looking f);
   }

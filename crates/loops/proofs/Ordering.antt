@@ -1,59 +1,127 @@
--- Along a reference the reach falls, so that the rows by their keys are in order.
-use Prim.Native.Nat.{ℕ, ◌+◌, ◌*◌, ◌<◌, ◌≤◌}
+-- Along a reference the reach falls, so that the rows by their reach are in order.
+use Prim.Native.Nat.{ℕ, zero, suc, ◌+◌, ◌-◌, ◌<◌, ◌≤◌}
+use native.Mathlib.Decide.{dec_lt}
 use native.Mathlib.Omega.{arith}
-use mathlib.Core.Bool.{Bool, true, false}
-use mathlib.Core.List.{List}
-use mathlib.Core.Path.{◌≡◌, refl, ◌∙◌}
-use borrow.Author.Count.{below_more}
-use lib.ListN.{length, get_or, set}
-use lib.Seq.{get_or-set_same, get_or-set_other}
+use mathlib.Core.Bool.{Bool, true, false, cond}
+use mathlib.Core.List.{List, [], ◌∷◌, ◌++◌}
+use mathlib.Core.Path.{◌≡◌, refl, sym, ◌∙◌}
+use borrow.Author.Tests.{eqb-true, eq-eqb}
+use lib.Dec.{eqb}
+use lib.ListN.{length, get_or, take, drop}
+use lib.Seq.{length-take-le}
+use Rattle.std.specs.Prelude.{count_by}
+use Rattle.std.specs.List.{range_with_len, position_or_len, Contains}
+use Rattle.std.specs.List.Sorted.{IsPermutation, IsNonDecreasingBy}
+use Rattle.std.proofs.lemmas.List.{get_or-take, get_or-drop, get_or_append_left, get_or-append_right, get_or_default}
+use Rattle.std.proofs.lemmas.List.FromFn.{length-range_with_len, get_or-range_with_len}
+use Rattle.std.proofs.lemmas.List.Sorted.{Contains-permutation, All-permutation, length_permutation}
+use Rattle.std.proofs.lemmas.List.Sums.{sum_by-cons, sum_by-le-sum_by, fails_before_first, passes_at_first}
 use Rattle.meaning.specs.Loop.{LoopFree, by_flat, by_join, starts}
-use Rattle.meaning.specs.Table.{Table, InRange, Refers, row_limit}
+use Rattle.meaning.specs.Table.{Table, InRange, Refers}
+use Rattle.meaning.proofs.Tests.{Is, false≢true}
 use Rattle.meaning.proofs.Theorems.{loops}
 use Rattle.counts.specs.Order.{Ordered}
 use Rattle.counts.proofs.Rank.{refers_there}
-use Rattle.loops.specs.Arranging.{reach, Keys, Distinct, place, Arranged}
-use Rattle.loops.specs.Closing.{marked, Closed}
-use Rattle.loops.proofs.Arranging.{place_there, place_before}
+use Rattle.loops.specs.Arranging.{reach}
+use Rattle.loops.specs.Closing.{marked, AllDone}
 use Rattle.loops.proofs.Closed.{all_found}
-use Rattle.loops.proofs.Counting.{count_fewer}
+use Rattle.loops.proofs.Given.{Marks}
 
--- the keys, before the first row and with one row more
-module _ (w n : ℕ) (m keys : List ℕ) where
-  pub keys_none : Keys w n m 0 keys
-  keys_none = record { key = λ k l. absurd (omega arith) }
-
-  pub keys_next : (i : ℕ) → i < length keys → Keys w n m i keys → Keys w n m (i + 1) (set keys i (reach w n m i * w + i))
-  keys_next i h a = record {
-    key = below_more (λ k. get_or (set keys i (reach w n m i * w + i)) k 0 ≡ reach w n m k * w + k) i
-        (λ k l. get_or-set_other keys i k (reach w n m i * w + i) 0 (omega arith) ∙ a.key k l)
-        (get_or-set_same keys i (reach w n m i * w + i) 0 h);
-  }
-
-pub keys_distinct : (n : ℕ) (m keys : List ℕ) → n ≤ row_limit → Keys row_limit n m n keys → Distinct n keys
-keys_distinct n m keys few k = record { same = λ i j a b e. omega (arith, k.key i a, k.key j b) }
-
-module _ (rows : Table) (m : List ℕ) (few : length rows ≤ row_limit) (range : InRange rows) (free : LoopFree rows) (closed : Closed row_limit rows m) where
-  not_joined_to_itself : (j : ℕ) → j < length rows → marked row_limit m j j ≡ false
-  not_joined_to_itself j h = at (marked row_limit m j j) refl
+-- fewer pass the first test, where all that pass it pass the second and some item passes the second alone
+module _ (s t : ℕ → Bool) (more : (k : ℕ) → Is (s k) → Is (t k)) where
+  one : (k : ℕ) → cond (s k) 1 0 ≤ cond (t k) 1 0
+  one k = at (s k) (t k) (more k)
     where
-      at : (b : Bool) → marked row_limit m j j ≡ b → b ≡ false
-      at true q = absurd (free j (starts (((loops rows).closure j j).0 (closed.marks.sound j j (omega arith) q))))
+      at : (a b : Bool) → (Is a → Is b) → cond a 1 0 ≤ cond b 1 0
+      at true b h = rw (h refl) (omega arith)
+      at false b h = omega arith
+
+  count_fewer : (xs : List ℕ) (i : ℕ) → i < length xs → s (get_or xs i 0) ≡ false → Is (t (get_or xs i 0)) → count_by s xs < count_by t xs
+  count_fewer [] i h a b = absurd (omega arith)
+  count_fewer (x ∷ xs) zero h a b =
+      let l = sum_by-le-sum_by (λ (k : ℕ). cond (s k) 1 0) (λ (k : ℕ). cond (t k) 1 0) xs one in
+      let p = sum_by-cons (λ (k : ℕ). cond (s k) 1 0) x xs in
+      let q = sum_by-cons (λ (k : ℕ). cond (t k) 1 0) x xs in
+      let y : ◌≡◌ {A = ℕ} (cond (s x) 1 0) 0 = rw a in
+      let z : ◌≡◌ {A = ℕ} (cond (t x) 1 0) 1 = rw b in
+      omega (arith, l, p, q, y, z)
+  count_fewer (x ∷ xs) (suc i) h a b =
+      let l = count_fewer xs i (omega arith) a b in
+      let p = sum_by-cons (λ (k : ℕ). cond (s k) 1 0) x xs in
+      let q = sum_by-cons (λ (k : ℕ). cond (t k) 1 0) x xs in
+      omega (arith, one x)
+
+module _ (rows : Table) (m : List (List Bool)) (range : InRange rows) (marks : Marks rows m) (closed : AllDone rows m) (free : LoopFree rows) where
+  not_joined_to_itself : (j : ℕ) → marked m j j ≡ false
+  not_joined_to_itself j = at (marked m j j) refl
+    where
+      at : (b : Bool) → marked m j j ≡ b → b ≡ false
+      at true q = absurd (free j (starts (((loops rows).closure j j).0 (marks.sound j j q))))
       at false q = refl
 
-  reach_falls : (i j : ℕ) → Refers rows i j → reach row_limit (length rows) m j < reach row_limit (length rows) m i
+  reach_falls : (i j : ℕ) → Refers rows i j → reach (length rows) m j < reach (length rows) m i
   reach_falls i j r =
-      count_fewer (marked row_limit m j) (marked row_limit m i) (length rows) j (range.referred r)
-      (not_joined_to_itself j (range.referred r))
-      (all_found row_limit rows m range closed (by_flat r)).mark
-      (λ k h e. (all_found row_limit rows m range closed (by_join (by_flat r) (closed.marks.sound j k (omega arith) e))).mark)
+      let h = range.referred r in
+      let e : get_or (range_with_len 0 (length rows)) j 0 ≡ j = omega (arith, get_or-range_with_len 0 (length rows) j 0 h) in
+      count_fewer (marked m j) (marked m i)
+      (λ k f. (all_found rows m range closed (by_join (by_flat r) (marks.sound j k f))).mark)
+      (range_with_len 0 (length rows)) j (omega (arith, length-range_with_len 0 (length rows)))
+      (rw e (not_joined_to_itself j))
+      (rw e (all_found rows m range closed (by_flat r)).mark)
 
-  pub ordered : (keys order : List ℕ) → Keys row_limit (length rows) m (length rows) keys → Arranged (length rows) keys (length rows) order → Ordered rows order
-  ordered keys order k a = record {
-    place = place (length rows) keys;
-    there = place_there (length rows) keys;
-    stands = a.stands;
-    before = λ i j r. place_before (length rows) keys j i (range.referred r) (omega (arith, reach_falls i j r, k.key i (refers_there i r), k.key j (range.referred r), range.referred r));
-    rows_only = a.rows_only;
-    rest = a.rest;
-  }
+  -- rows that stood in their order, and by their reach
+  module _ (order sorted : List ℕ) (long : length rows ≤ length order) (first : (k : ℕ) → k < length rows → get_or order k 0 ≡ k) (rest : (k : ℕ) → length rows ≤ k → get_or order k 0 ≡ 0) (moved : IsPermutation (take (length rows) order) sorted) (rising : IsNonDecreasingBy (reach (length rows) m) sorted) where
+    taken : length (take (length rows) order) ≡ length rows
+    taken = length-take-le (length rows) order long
+
+    as_long : length sorted ≡ length rows
+    as_long = length_permutation (take (length rows) order) sorted moved ∙ taken
+
+    abbrev place_of : ℕ → ℕ
+    place_of i = position_or_len (eqb i) sorted
+
+    there : (i : ℕ) → i < length rows → place_of i < length rows
+    there i h =
+        let c = Contains-permutation (take (length rows) order) sorted i moved (i, omega (arith, taken), get_or_default (take (length rows) order) i i 0 (omega (arith, taken)) ∙ (get_or-take (length rows) order i 0 h ∙ first i h)) in
+        at c (dec_lt (place_of i) (length rows))
+      where
+        at : Contains sorted i → Dec (place_of i < length rows) → place_of i < length rows
+        at c (yes l) = l
+        at c (no n) = false≢true (sym (fails_before_first (eqb i) sorted c.0 i (omega (arith, c.1, as_long))) ∙ eq-eqb i (get_or sorted c.0 i) (sym c.2))
+
+    stands : (i : ℕ) → i < length rows → get_or sorted (place_of i) 0 ≡ i
+    stands i h = sym (eqb-true i (get_or sorted (place_of i) 0) (passes_at_first (eqb i) sorted 0 (omega (arith, there i h, as_long))))
+
+    small : (k : ℕ) → k < length rows → get_or sorted k 0 < length rows
+    small k h =
+        All-permutation (λ (x : ℕ). x < length rows) (take (length rows) order) sorted moved
+        (λ j d g. let l : j < length rows = omega (arith, taken) in rw (get_or_default (take (length rows) order) j d 0 g, get_or-take (length rows) order j 0 l, first j l) l)
+        k 0 (omega (arith, as_long))
+
+    before : (i j : ℕ) → Refers rows i j → place_of j < place_of i
+    before i j r = at (dec_lt (place_of j) (place_of i))
+      where
+        a : i < length rows
+        a = refers_there i r
+
+        b : j < length rows
+        b = range.referred r
+
+        at : Dec (place_of j < place_of i) → place_of j < place_of i
+        at (yes l) = l
+        at (no n) =
+            let g = rising (place_of i) (place_of j) 0 (omega arith) (omega (arith, there j b, as_long)) in
+            absurd (omega (arith, reach_falls i j r, rw (stands i a, stands j b) at g))
+
+    pub ordered : Ordered rows (sorted ++ drop (length rows) order)
+    ordered = record {
+      place = place_of;
+      there = there;
+      stands = λ i h. get_or_append_left sorted (drop (length rows) order) 0 (place_of i) (omega (arith, there i h, as_long)) ∙ stands i h;
+      before = before;
+      rows_only = λ k h. rw (get_or_append_left sorted (drop (length rows) order) 0 k (omega (arith, as_long))) (small k h);
+      rest = λ k h. get_or-append_right sorted (drop (length rows) order) (length rows) k 0 as_long h ∙ (get_or-drop (length rows) order (k - length rows) 0 ∙ rest (length rows + (k - length rows)) (omega arith));
+    }
+
+  pub ordered_rows : (n : ℕ) → n ≡ length rows → (order sorted : List ℕ) → n ≤ length order → ((k : ℕ) → k < n → get_or order k 0 ≡ k) → ((k : ℕ) → n ≤ k → get_or order k 0 ≡ 0) → IsPermutation (take n order) sorted → IsNonDecreasingBy (reach n m) sorted → Ordered rows (sorted ++ drop n order)
+  ordered_rows n e = rw e ordered

@@ -1,91 +1,73 @@
--- Laws of `first`: one number more, none left; what is found passes, what is before it does not.
-use Prim.Native.Nat.{ℕ, zero, suc, ◌+◌, ◌-◌, ◌<◌, ◌≤◌}
+-- Searches among the numbers below n, and among the items of a list.
+use Prim.Native.Nat.{ℕ, zero, suc, ◌+◌, ◌<◌, ◌≤◌}
 use native.Mathlib.Decide.{dec_lt}
-use native.Mathlib.Omega.{arith}
 use native.Mathlib.Nat.{eq-or-lt_of_le}
+use native.Mathlib.Omega.{arith}
 use mathlib.Core.Bool.{Bool, true, false, cond}
+use mathlib.Core.List.{List, [], ◌∷◌, map}
 use mathlib.Core.Logic.{⊎_elim}
-use mathlib.Core.Path.{◌≡◌, refl, sym, ◌∙◌}
-use borrow.Author.Tests.{lt-ltb, le-ltb, ltb-true}
-use Rattle.meaning.proofs.Tests.{Is, false≢true}
-use Rattle.loops.specs.Search.{first, some}
+use mathlib.Core.Path.{◌≡◌, refl}
+use borrow.Author.Tests.{ltb-false}
+use lib.Dec.{ltb}
+use lib.ListN.{length, get_or, length-map}
+use Rattle.std.specs.Prelude.{Some, None, find, position}
+use Rattle.std.specs.List.{list_any, range_with_len, position_or_len}
+use Rattle.std.proofs.lemmas.List.Folds.{Any-from_list_any, list_any_at}
+use Rattle.std.proofs.lemmas.List.FromFn.{length-range_with_len, get_or-range_with_len}
+use Rattle.std.proofs.lemmas.List.Sums.{fails_before_first}
+use Rattle.meaning.proofs.Tests.{Is}
 
--- a search that has come to u
-module _ (test : ℕ → Bool) (n u : ℕ) (far : first test n 0 ≡ first test (n - u) u) where
-  pub first_here : u < n → test u ≡ true → first test n 0 ≡ u
-  unfolding first
-  first_here h e =
-      let s : n - u ≡ suc (n - (u + 1)) = omega arith in
-      far ∙ rw (s, e)
+-- whether a number below n passes
+module _ (test : ℕ → Bool) (n : ℕ) where
+  pub some_from : (v : ℕ) → v < n → Is (test v) → Is (list_any test (range_with_len 0 n))
+  some_from v h e = list_any_at test (range_with_len 0 n) v 0 (omega (arith, length-range_with_len 0 n)) (let z : get_or (range_with_len 0 n) v 0 ≡ v = omega (arith, get_or-range_with_len 0 n v 0 h) in rw z e)
 
-  pub first_next : u < n → test u ≡ false → first test n 0 ≡ first test (n - (u + 1)) (u + 1)
-  unfolding first
-  first_next h e =
-      let s : n - u ≡ suc (n - (u + 1)) = omega arith in
-      let t : suc u ≡ u + 1 = omega arith in
-      far ∙ rw (s, e, t)
+  pub some_to : Is (list_any test (range_with_len 0 n)) → (v : ℕ) × (v < n) × Is (test v)
+  some_to h =
+      let x = Any-from_list_any test (range_with_len 0 n) h in
+      let l : x.0 < n = omega (arith, x.2, length-range_with_len 0 n) in
+      let e : x.1 ≡ x.0 = omega (arith, x.3, get_or-range_with_len 0 n x.0 x.1 l) in
+      (x.0, l, rw e at x.4)
 
-  pub first_none : n ≤ u → first test n 0 ≡ u
-  unfolding first
-  first_none h =
-      let s : n - u ≡ 0 = omega arith in
-      far ∙ rw s
+-- two tests that say the same of each number
+pub any_same : (p q : ℕ → Bool) (u n : ℕ) → ((k : ℕ) → u ≤ k → k < u + n → p k ≡ q k) → list_any p (range_with_len u n) ≡ list_any q (range_with_len u n)
+any_same p q u zero h = refl
+any_same p q u (suc n) h = rw (h u (omega arith) (omega arith), any_same p q (u + 1) n (λ k a b. h k (omega arith) (omega arith)))
 
-  pub some_yes : u < n → test u ≡ true → true ≡ some test n
-  some_yes h e = sym (lt-ltb (first test n 0) n (omega (arith, first_here h e)))
-
-  pub some_no : n ≤ u → false ≡ some test n
-  some_no h = sym (le-ltb (first test n 0) n (omega (arith, first_none h)))
-
+-- the first of k numbers from u on that passes
 module _ (test : ℕ → Bool) where
-  most : (k u : ℕ) → first test k u ≤ u + k
-  unfolding first
-  most zero u = omega arith
-  most (suc k) u = at (test u) refl (most k (suc u))
+  pub find_some : (u k i : ℕ) → find test (range_with_len u k) ≡ Some i → (u ≤ i) × (i < u + k) × Is (test i) × ((j : ℕ) → u ≤ j → j < i → test j ≡ false)
+  find_some u zero i e = absurd (let z : ◌≡◌ {A = ℕ} 0 1 = cc in omega arith)
+  find_some u (suc k) i e = at (test u) refl e (find_some (u + 1) k i)
     where
-      at : (b : Bool) → test u ≡ b → first test k (suc u) ≤ suc u + k → cond b u (first test k (suc u)) ≤ u + suc k
-      at true e h = omega arith
-      at false e h = omega arith
+      at : (b : Bool) → test u ≡ b → cond b (Some u) (find test (range_with_len (u + 1) k)) ≡ Some i → (find test (range_with_len (u + 1) k) ≡ Some i → (u + 1 ≤ i) × (i < u + 1 + k) × Is (test i) × ((j : ℕ) → u + 1 ≤ j → j < i → test j ≡ false)) → (u ≤ i) × (i < u + suc k) × Is (test i) × ((j : ℕ) → u ≤ j → j < i → test j ≡ false)
+      at true t f ih = let z : u ≡ i = cc in (omega arith, omega arith, rw (← z) t, λ j a b. absurd (omega arith))
+      at false t f ih =
+          let x = ih f in
+          (omega arith, omega arith, x.2, λ j a b. ⊎_elim (λ (q : u ≡ j). rw (← q) t) (λ (q : u < j). x.3 j (omega arith) b) (eq-or-lt_of_le a))
 
-  passes : (k u : ℕ) → first test k u < u + k → Is (test (first test k u))
-  unfolding first
-  passes zero u h = absurd (omega arith)
-  passes (suc k) u h = at (test u) refl (passes k (suc u)) h
+  pub find_none : (u k : ℕ) → find test (range_with_len u k) ≡ None → (j : ℕ) → u ≤ j → j < u + k → test j ≡ false
+  find_none u zero e j a b = absurd (omega arith)
+  find_none u (suc k) e j a b = at (test u) refl e (find_none (u + 1) k)
     where
-      at : (b : Bool) → test u ≡ b → (first test k (suc u) < suc u + k → Is (test (first test k (suc u)))) → cond b u (first test k (suc u)) < u + suc k → Is (test (cond b u (first test k (suc u))))
-      at true e ih h = e
-      at false e ih h = ih (omega arith)
+      at : (c : Bool) → test u ≡ c → cond c (Some u) (find test (range_with_len (u + 1) k)) ≡ None → (find test (range_with_len (u + 1) k) ≡ None → (j : ℕ) → u + 1 ≤ j → j < u + 1 + k → test j ≡ false) → test j ≡ false
+      at true t f ih = absurd (let z : ◌≡◌ {A = ℕ} 0 1 = cc in omega arith)
+      at false t f ih = ⊎_elim (λ (q : u ≡ j). rw (← q) t) (λ (q : u < j). ih f j (omega arith) (omega arith)) (eq-or-lt_of_le a)
 
-  before : (k u v : ℕ) → u ≤ v → v < first test k u → test v ≡ false
-  unfolding first
-  before zero u v l h = absurd (omega arith)
-  before (suc k) u v l h = at (test u) refl (before k (suc u) v) h
-    where
-      at : (b : Bool) → test u ≡ b → (suc u ≤ v → v < first test k (suc u) → test v ≡ false) → v < cond b u (first test k (suc u)) → test v ≡ false
-      at true e ih h = absurd (omega arith)
-      at false e ih h = ⊎_elim (λ (q : u ≡ v). rw (← q) e) (λ (q : u < v). ih q h) (eq-or-lt_of_le l)
+-- where no item passes, each fails
+pub position_none : {X : Type 0} (p : X → Bool) (xs : List X) → position p xs ≡ None → (k : ℕ) (d : X) → k < length xs → p (get_or xs k d) ≡ false
+position_none p xs e k d h = at (ltb (position_or_len p xs) (length xs)) refl e
+  where
+    at : (b : Bool) → ltb (position_or_len p xs) (length xs) ≡ b → cond b (Some (position_or_len p xs)) None ≡ None → p (get_or xs k d) ≡ false
+    at true t f = absurd (let z : ◌≡◌ {A = ℕ} 0 1 = cc in omega arith)
+    at false t f = fails_before_first p xs k d (omega (arith, ltb-false (position_or_len p xs) (length xs) t))
 
-  module _ (n : ℕ) where
-    pub first_most : first test n 0 ≤ n
-    first_most = omega (arith, most n 0)
-
-    pub first_passes : first test n 0 < n → Is (test (first test n 0))
-    first_passes h = passes n 0 (omega arith)
-
-    pub first_before : (v : ℕ) → v < first test n 0 → test v ≡ false
-    first_before v h = before n 0 v (omega arith) h
-
-    -- what passes below n is found
-    pub some_from : (v : ℕ) → v < n → Is (test v) → Is (some test n)
-    some_from v h e =
-        lt-ltb (first test n 0) n
-        (⊎_elim
-        (λ (q : first test n 0 ≡ n). false≢true (sym (first_before v (omega arith)) ∙ e))
-        (λ (q : first test n 0 < n). q)
-        (eq-or-lt_of_le first_most))
-
-    pub some_to : Is (some test n) → (v : ℕ) × (v < n) × Is (test v)
-    some_to h = let l = ltb-true (first test n 0) n h in (first test n 0, l, first_passes l)
+pub position_map : {X Y : Type 0} (p : Y → Bool) (f : X → Y) (xs : List X) → position p (map f xs) ≡ position (λ x. p (f x)) xs
+position_map {X} p f xs = rw (before xs, length-map)
+  where
+    before : (xs : List X) → position_or_len p (map f xs) ≡ position_or_len (λ x. p (f x)) xs
+    before [] = refl
+    before (x ∷ xs) = rw (before xs)
 
 -- the least number of a kind is one
 pub least_same : (P : ℕ → Type 0) (i k : ℕ) → P i → ((j : ℕ) → j < i → P j → ⊥) → P k → ((j : ℕ) → j < k → P j → ⊥) → i ≡ k

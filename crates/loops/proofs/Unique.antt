@@ -5,9 +5,7 @@ use mathlib.Core.Path.{◌≡◌, refl, ap}
 use lib.ListN.{length}
 use Rattle.meaning.specs.Loop.{LoopFree, SmallestOnLoop, OnLoop}
 use Rattle.meaning.specs.Table.{Table, InRange}
-use Rattle.loops.specs.Judged.{Names, referring, looking, SmallestMissing, Judged, fine, missing, looping, large}
-use Rattle.loops.specs.declared.Checked.{Checked}
-use Rattle.loops.specs.declared.Checked.TheVariants.{Missing, Looping}
+use Rattle.loops.specs.Judged.{Checked, Missing, Looping, Names, referring, looking, SmallestMissing, Judged, fine, missing, looping, large}
 use Rattle.loops.proofs.Search.{least_same}
 
 module _ {rows : Table} where

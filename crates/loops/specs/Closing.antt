@@ -1,9 +1,9 @@
--- The closure of the pairs of rows that a cancelling walk joins. The pairs found stand as ones in a list, w for each row; w is at least the
--- number of rows. Only the contracts inside this crate speak of it: what a caller is promised is in Judged.
-use Rattle.std.specs.Prelude.{ℕ, ◌+◌, ◌*◌, ◌<◌, ◌≤◌, Bool, true, false, ◌&&◌, ◌||◌, cond, List, [], ◌∷◌, ◌≡◌, eqb, ltb, get_or, length}
+-- The closure of the pairs of rows that a cancelling walk joins. The pairs found are a list for each row, with `true` for each row that it is
+-- joined to. Only the contracts inside this crate speak of it: what a caller is promised is in Judged.
+use Rattle.std.specs.Prelude.{ℕ, ◌<◌, Bool, true, false, ◌&&◌, ◌||◌, List, [], Option, ◌≡◌, eqb, find, count_by, sum_by, slice_set, get_or, length}
+use Rattle.std.specs.List.{list_any, range_with_len}
 use Rattle.meaning.specs.Table.{first, next, Dir, down, up, converse, Table, Row, row_at, yes_row, no_row, is_row, isnot_row, any_row, all_row, go_row, stop_row}
-use Rattle.meaning.specs.Loop.{Joined, OnLoop}
-use Rattle.loops.specs.Search.{some, first as first_of}
+use Rattle.meaning.specs.Loop.{Joined}
 
 -- A row is `any` or `all` and names row j.
 abbrev pub refers_to : ℕ → Row → Bool
@@ -38,85 +38,80 @@ back_to d j (go_row e k) = opposite d e && eqb k j
 back_to d j (stop_row e) = false
 
 -- The pair of i and j is among those found.
-abbrev pub marked : ℕ → List ℕ → ℕ → ℕ → Bool
-marked w m i j = ltb i w && eqb (get_or m (i * w + j) 0) 1
+abbrev pub marked : List (List Bool) → ℕ → ℕ → Bool
+marked m i j = get_or (get_or m i []) j false
+
+-- The pairs found, and that of i and j.
+abbrev pub with_pair : List (List Bool) → ℕ → ℕ → List (List Bool)
+with_pair m i j = slice_set m i (slice_set (get_or m i []) j true)
 
 -- Row l, which is r, is k or paired with it, and goes back to j.
-abbrev pub turns : ℕ → List ℕ → Dir → ℕ → ℕ → ℕ → Row → Bool
-turns w m d k j l r = (eqb k l || marked w m k l) && back_to d j r
+abbrev pub turns : List (List Bool) → Dir → ℕ → ℕ → ℕ → Row → Bool
+turns m d k j l r = (eqb k l || marked m k l) && back_to d j r
 
-abbrev pub turns_at : ℕ → Table → List ℕ → Dir → ℕ → ℕ → ℕ → Bool
-turns_at w rows m d k j l = turns w m d k j l (row_at rows l)
+abbrev pub turns_at : Table → List (List Bool) → Dir → ℕ → ℕ → ℕ → Bool
+turns_at rows m d k j l = turns m d k j l (row_at rows l)
 
 -- A row goes to some k from which one comes back to j.
-abbrev pub wraps : ℕ → Table → List ℕ → Row → ℕ → Bool
-wraps w rows m yes_row j = false
-wraps w rows m no_row j = false
-wraps w rows m (is_row n) j = false
-wraps w rows m (isnot_row n) j = false
-wraps w rows m (any_row i k) j = false
-wraps w rows m (all_row i k) j = false
-wraps w rows m (go_row d k) j = some (turns_at w rows m d k j) (length rows)
-wraps w rows m (stop_row e) j = false
+abbrev pub wraps : Table → List (List Bool) → Row → ℕ → Bool
+wraps rows m yes_row j = false
+wraps rows m no_row j = false
+wraps rows m (is_row n) j = false
+wraps rows m (isnot_row n) j = false
+wraps rows m (any_row i k) j = false
+wraps rows m (all_row i k) j = false
+wraps rows m (go_row d k) j = list_any (turns_at rows m d k j) (range_with_len 0 (length rows))
+wraps rows m (stop_row e) j = false
 
 -- Two pairs found meet.
-abbrev pub meets_at : ℕ → List ℕ → ℕ → ℕ → ℕ → Bool
-meets_at w m i j k = marked w m i k && marked w m k j
+abbrev pub meets_at : List (List Bool) → ℕ → ℕ → ℕ → Bool
+meets_at m i j k = marked m i k && marked m k j
 
-abbrev pub meets : ℕ → ℕ → List ℕ → ℕ → ℕ → Bool
-meets w n m i j = some (meets_at w m i j) n
+abbrev pub meets : ℕ → List (List Bool) → ℕ → ℕ → Bool
+meets n m i j = list_any (meets_at m i j) (range_with_len 0 n)
 
 -- One of the rules gives the pair of i and j.
-unfoldable pub given : ℕ → Table → List ℕ → ℕ → ℕ → Bool
-given w rows m i j = refers_to j (row_at rows i) || (wraps w rows m (row_at rows i) j || meets w (length rows) m i j)
+unfoldable pub given : Table → List (List Bool) → ℕ → ℕ → Bool
+given rows m i j = refers_to j (row_at rows i) || (wraps rows m (row_at rows i) j || meets (length rows) m i j)
 
 -- How many pairs are found.
-unfoldable pub pairs : List ℕ → ℕ
-pairs [] = 0
-pairs (x ∷ m) = cond (eqb x 1) 1 0 + pairs m
+unfoldable pub pairs : List (List Bool) → ℕ
+pairs m = sum_by (λ l. count_by (λ b. b) l) m
+
+-- Whether each of w rows is joined to each of w rows is written down.
+pub record Square (w : ℕ) (m : List (List Bool)) : Type 0 where
+  pub high : length m ≡ w
+  pub wide : (i : ℕ) → i < w → length (get_or m i []) ≡ w
 
 -- Nothing but joined pairs is found.
-pub record Marks (w : ℕ) (rows : Table) (m : List ℕ) : Type 0 where
-  pub long : length m ≡ w * w
-  pub sound : (i j : ℕ) → j < w → marked w m i j ≡ true → Joined rows i j
+pub record Sound (rows : Table) (m : List (List Bool)) : Type 0 where
+  pub sound : (i j : ℕ) → marked m i j ≡ true → ∥ Joined rows i j ∥₁
 
 -- No rule gives the pair of i and j, or it is found.
-pub record Settled (w : ℕ) (rows : Table) (i j : ℕ) (m : List ℕ) : Type 0 where
-  pub settled : given w rows m i j ≡ true → marked w m i j ≡ true
+pub record Settled (rows : Table) (i j : ℕ) (m : List (List Bool)) : Type 0 where
+  pub settled : given rows m i j ≡ true → marked m i j ≡ true
 
-abbrev pub RowSettled : ℕ → Table → ℕ → ℕ → List ℕ → Type 0
-RowSettled w rows i upto m = (j : ℕ) → j < upto → Settled w rows i j m
+abbrev pub RowSettled : Table → ℕ → ℕ → List (List Bool) → Type 0
+RowSettled rows i upto m = (j : ℕ) → j < upto → Settled rows i j m
 
-abbrev pub RowDone : ℕ → Table → ℕ → List ℕ → Type 0
-RowDone w rows i m = RowSettled w rows i (length rows) m
+abbrev pub RowsDone : Table → ℕ → List (List Bool) → Type 0
+RowsDone rows upto m = (i : ℕ) → i < upto → RowSettled rows i (length rows) m
 
-abbrev pub RowsDone : ℕ → Table → ℕ → List ℕ → Type 0
-RowsDone w rows upto m = (i : ℕ) → i < upto → RowDone w rows i m
+-- The rows below i are settled, and the pairs of row i with the rows below j.
+pub record Before (rows : Table) (i j : ℕ) (m : List (List Bool)) : Type 0 where
+  pub rows_done : RowsDone rows i m
+  pub row_settled : RowSettled rows i j m
 
-abbrev pub AllDone : ℕ → Table → List ℕ → Type 0
-AllDone w rows m = RowsDone w rows (length rows) m
+-- No rule gives another pair.
+pub record AllDone (rows : Table) (m : List (List Bool)) : Type 0 where
+  pub all : RowsDone rows (length rows) m
 
--- A part of a pass found `more` pairs; where it found none it left all as it was, and what it went through is settled.
-pub record Passed (w : ℕ) (rows : Table) (Through : List ℕ → Type 0) (before after : List ℕ) (more : ℕ) : Type 0 where
-  pub marks : Marks w rows after
-  pub counted : pairs after ≡ pairs before + more
-  pub still : more ≡ 0 → after ≡ before
-  pub through : more ≡ 0 → Through after
+-- A part of a pass found new pairs; or it left all as it was, and what it went through is settled.
+pub record Passed (Through : List (List Bool) → Type 0) (before after : List (List Bool)) (more : Bool) : Type 0 where
+  pub grown : more ≡ true → pairs before < pairs after
+  pub still : more ≡ false → after ≡ before
+  pub through : more ≡ false → Through after
 
--- Every pair found is joined, and no rule gives another.
-pub record Closed (w : ℕ) (rows : Table) (m : List ℕ) : Type 0 where
-  pub marks : Marks w rows m
-  pub all : AllDone w rows m
-
--- The first row that is paired with itself, or the number of rows.
-abbrev pub self_marked : ℕ → List ℕ → ℕ → Bool
-self_marked w m i = marked w m i i
-
-abbrev pub first_marked : ℕ → ℕ → List ℕ → ℕ
-first_marked w n m = first_of (self_marked w m) n 0
-
--- The smallest row on a loop, or the number of rows.
-pub record FirstOnLoop (rows : Table) (i : ℕ) : Type 0 where
-  pub most : i ≤ length rows
-  pub on_loop : i < length rows → OnLoop rows i
-  pub none_before : (j : ℕ) → j < i → OnLoop rows j → ⊥
+-- The first row that is paired with itself.
+abbrev pub first_marked : ℕ → List (List Bool) → Option ℕ
+first_marked n m = find (λ i. marked m i i) (range_with_len 0 n)

@@ -1,22 +1,25 @@
 -- What `check` hands over: what is judged of a table, and an order of its rows where each row is there and none is on a loop.
-use Rattle.std.specs.Prelude.{ℕ, List, ◌≡◌, get_or}
+use Rattle.std.specs.Prelude.{ℕ, List, Result, Ok, Err}
 use Rattle.meaning.specs.Table.{Table}
 use Rattle.counts.specs.Order.{Ordered}
-use Rattle.loops.specs.Judged.{Judged}
-use Rattle.loops.specs.declared.Checked.{Checked}
-use Rattle.loops.specs.declared.Checked.TheVariants.{Fine, Missing, Looping, Large}
-use Rattle.loops.specs.declared.Judgement.{Judgement}
+use Rattle.loops.specs.Judged.{Checked, Fine, Missing, Looping, Large, Judged}
+use Rattle.loops.specs.declared.Fault.{Fault}
+use Rattle.loops.specs.declared.Fault.TheVariants as F
 
--- No order: 0 at every place.
-abbrev pub Unordered : List ℕ → Type 0
-Unordered order = (k : ℕ) → get_or order k 0 ≡ 0
+-- What the answer says of the table.
+abbrev pub checked : Result (List ℕ) Fault → Checked
+checked (Ok order) = Fine
+checked (Err (F.Missing i)) = Missing i
+checked (Err (F.Looping i)) = Looping i
+checked (Err (F.Large order)) = Large
 
-abbrev pub OrderFor : Table → Checked → List ℕ → Type 0
-OrderFor rows Fine order = Ordered rows order
-OrderFor rows (Missing i) order = Unordered order
-OrderFor rows (Looping i) order = Unordered order
-OrderFor rows Large order = Ordered rows order
+-- The order that comes with it.
+abbrev pub OrderFor : Table → Result (List ℕ) Fault → Type 0
+OrderFor rows (Ok order) = Ordered rows order
+OrderFor rows (Err (F.Missing i)) = Unit {0}
+OrderFor rows (Err (F.Looping i)) = Unit {0}
+OrderFor rows (Err (F.Large order)) = Ordered rows order
 
-pub record Handed (rows : Table) (r : Judgement) : Type 0 where
-  pub judged : Judged rows r.verdict
-  pub ordered : OrderFor rows r.verdict r.order
+pub record Handed (rows : Table) (r : Result (List ℕ) Fault) : Type 0 where
+  pub judged : Judged rows (checked r)
+  pub ordered : OrderFor rows r

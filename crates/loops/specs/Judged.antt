@@ -2,8 +2,13 @@
 use Rattle.std.specs.Prelude.{ℕ, ◌<◌, ◌≤◌, ◌≡◌, length}
 use Rattle.meaning.specs.Table.{Dir, Table, row_at, go_row, Refers, InRange, size, size_limit}
 use Rattle.meaning.specs.Loop.{LoopFree, SmallestOnLoop}
-use Rattle.loops.specs.declared.Checked.{Checked}
-use Rattle.loops.specs.declared.Checked.TheVariants.{Fine, Missing, Looping, Large}
+
+-- What is said of a table: nothing, or which of the refusals, and 5 and 6 with their row.
+pub data Checked : Type 0 where
+  Fine : Checked
+  Missing : (i : ℕ) → Checked
+  Looping : (i : ℕ) → Checked
+  Large : Checked
 
 -- 01's numbers: which refusal it is, and at which place; 0 and 0 for none.
 abbrev pub refusal_of : Checked → ℕ

@@ -1,6 +1,5 @@
 pub mod Judged
 pub mod Handed
-pub mod Search
 pub mod Missing
 pub mod Closing
 pub mod Arranging

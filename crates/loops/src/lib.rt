@@ -1,89 +1,56 @@
 #![tactic(auto)]
 
 // Refusals 5, 6 and 7: whether a table's rows are there, loop-free and few enough to be searched.
-mod closure;
 mod missing;
 mod order;
+mod pairs;
 pub mod rules;
 
-ghost use Rattle.std.specs.Prelude.{◌≡◌, ◌≤◌, min, length};
+ghost use Rattle.std.specs.Prelude.{◌≡◌, ◌≤◌, length};
 ghost use Rattle.meaning.specs.Table.{row_limit, InRange};
 ghost use Rattle.table.specs.Rows.{table_in, table_of};
 ghost use Rattle.loops.specs.Handed.{Handed};
 
-use rules::PAIRS;
-use table::Table;
+use pairs::Pairs;
+use table::{Row, Table};
 
-// Refusals 5 and 6 come with their row.
+// A row is a place for refusals 5 and 6. A table that is merely too large to be searched still has an order of its rows.
 #[derive(Clone, Copy)]
-pub enum Checked {
-    Fine,
+pub enum Fault {
     Missing(usize),
     Looping(usize),
-    Large,
+    Large([u8; Table::ROWS]),
 }
 
-// The order comes with the verdict, since both are read off the same pairs.
-#[derive(Clone, Copy)]
-pub struct Judgement {
-    pub verdict: Checked,
-    pub order: [u8; Table::ROWS],
-}
-
-pub fn check(table: Table) -> Judgement
+// The order of the rows comes with the verdict, since both are read off the same pairs.
+pub fn check(table: Table) -> Result<[u8; Table::ROWS], Fault>
     ensures { Handed (table_of table) result }
 {
-    let cells = table.cells;
-    let n = at_most_all(table.rows);
-    check_rows(&cells[..n])
+    check_rows(table.rows())
 }
 
-fn at_most_all(rows: usize) -> usize
-    ensures { result ≡ min rows row_limit }
+fn check_rows(rows: &[Row]) -> Result<[u8; Table::ROWS], Fault>
+    requires { length rows.now ≤ row_limit }
+    ensures { Handed (table_in rows.now) result }
 {
-    if Table::ROWS < rows {
-        Table::ROWS
-    } else {
-        rows
+    match missing::first_missing(rows) {
+        Some(i) => Err(Fault::Missing(i)),
+        None => check_present(rows),
     }
-}
-
-fn check_rows(cells: &[u32]) -> Judgement
-    requires { length cells.now ≤ row_limit }
-    ensures { Handed (table_in cells.now) result }
-{
-    let absent = missing::first_missing(cells);
-    if absent < cells.len() {
-        return Judgement {
-            verdict: Checked::Missing(absent),
-            order: [0u8; Table::ROWS],
-        };
-    }
-    check_present(cells)
 }
 
 // Refusals 6 and 7, once every row that is named is there.
-fn check_present(cells: &[u32]) -> Judgement
-    requires { (length cells.now ≤ row_limit) × InRange (table_in cells.now) }
-    ensures { Handed (table_in cells.now) result }
+fn check_present(rows: &[Row]) -> Result<[u8; Table::ROWS], Fault>
+    requires { (length rows.now ≤ row_limit) × InRange (table_in rows.now) }
+    ensures { Handed (table_in rows.now) result }
 {
-    let mut m = [0u8; PAIRS];
-    let looping = closure::first_looping(cells, &mut m);
-    if looping < cells.len() {
-        return Judgement {
-            verdict: Checked::Looping(looping),
-            order: [0u8; Table::ROWS],
-        };
+    let pairs = Pairs::closed(rows);
+    if let Some(i) = pairs.first_looping() {
+        return Err(Fault::Looping(i));
     }
-    let order = order::order_of(cells, &m);
-    if Table::SIZE < counts::size_of(cells) {
-        return Judgement {
-            verdict: Checked::Large,
-            order: order,
-        };
+    let order = order::order_of(&pairs);
+    if Table::SIZE < counts::size_of(rows) {
+        return Err(Fault::Large(order));
     }
-    Judgement {
-        verdict: Checked::Fine,
-        order: order,
-    }
+    Ok(order)
 }

@@ -1,22 +1,11 @@
--- Either a row that is named is not there, or all are and the other refusals are tried.
-use Rattle.std.proofs.Common.{arith}
-use Rattle.meaning.specs.Table.{row_limit}
+use Rattle.std.proofs.Common.{◌∙◌, sym}
 use Rattle.table.specs.Rows.{table_in}
-use Rattle.counts.proofs.Grown.{zeros}
-use Rattle.counts.proofs.Laws.{table_long}
-use Rattle.loops.proofs.Judging.{judged_missing, judged_range}
+use Rattle.loops.specs.Judged.{missing}
+use Rattle.loops.proofs.Naming.{missing_found, none_missing}
 use Rattle.loops.proofs.check_rows.Goals as goal
 
-pub returns-then-absent-cells : goal.returns-then-absent-cells
-returns-then-absent-cells c =
-    let l = c.args.cells.now in
-    let n = table_long l in
-    let absent = c.first_missing-absent in
-    record { judged = judged_missing (table_in l) absent.result absent.ensures (omega arith); ordered = zeros row_limit }
-
 pub check_present-requires : goal.check_present-requires
-check_present-requires c =
-    let l = c.args.cells.now in
-    let n = table_long l in
-    let absent = c.first_missing-absent in
-    (omega arith, judged_range (table_in l) absent.result absent.ensures (omega arith))
+check_present-requires c = (c.requires, none_missing (table_in c.args.rows.now) (sym c.first_missing.ensures ∙ c.in-None.is))
+
+pub returns-in-Some : goal.returns-in-Some
+returns-in-Some c = record { judged = missing (missing_found (table_in c.args.rows.now) c.in-Some.i (sym c.first_missing.ensures ∙ c.in-Some.is)); ordered = tt }
