@@ -1,6 +1,5 @@
 pub mod Bytes
 pub mod Words
-pub mod Stages
 pub mod Numbers
 pub mod Written
 pub mod Scan

@@ -3,15 +3,17 @@ use mathlib.Core.Path.{◌≡◌, refl, subst}
 use mathlib.Core.List.{List, [], ◌∷◌, ◌++◌}
 use Prim.Native.Nat.{ℕ, ◌≤◌}
 use native.Mathlib.Decide.{dec_le}
-use lib.ListN.{length}
 use Rattle.meaning.specs.Table.{row_limit}
 use Rattle.table.specs.declared.Row.{Row}
 use Rattle.table.specs.declared.Row.TheVariants.{Yes, No, Is, Isnot, Any, All, Go, Stop}
 use Rattle.table.specs.declared.Table.{Table}
-use Rattle.table.specs.declared.refusal.Refusal.{Refusal}
-use Rattle.table.specs.Refusals.{number_of, place_of}
-use Rattle.table.specs.Rows.{rows_of}
+use Rattle.table.specs.Rows.{rows_of, Extended}
 use Rattle.std.specs.Prelude.{Ok, Err}
+use native.Mathlib.Omega.{arith}
+use Rattle.reader.specs.Parts.{taken}
+use Rattle.reader.specs.Reading.{Begins}
+use Rattle.table.specs.declared.refusal.Refusal.TheVariants.{Empty, Malformed, TooMany, NotThere}
+use Rattle.reader.proofs.Turns.{Turn, empty_text, at_end, at_full, at_wrong, at_not_there, next_turn}
 use Rattle.table.specs.Written.{written, written_rows, Writable, Direction, Exists}
 use Rattle.reader.specs.Parts.{nothing, line_in, first_of, starts_with}
 use Rattle.reader.specs.Reading.{Reading, rows_read, refused, Sound, none, more, Reads, empty, malformed, too_many, not_there, read, Answers}
@@ -103,8 +105,26 @@ only r = settled.only tables (ends_of r)
 
 -- the answers of `read_text`
 module _ {text : List ℕ} where
-  pub refuses : (r : Refusal) → reading tables text ≡ refused (number_of r) (place_of r) → Answers text (Err r)
-  refuses r e = record { reads = subst (λ (a : Reading). Reads text a) e (reads text); counted = tt }
+  answers : {a : Reading} → reading tables text ≡ a → Reads text a
+  answers e = subst (λ (a : Reading). Reads text a) e (reads text)
 
-  pub accepts : (t : Table) → t.rows.len ≡ length (rows_of t) → reading tables text ≡ rows_read (rows_of t) → Answers text (Ok t)
-  accepts t c e = record { reads = subst (λ (a : Reading). Reads text a) e (reads text); counted = c }
+  pub empty_refused : text ≡ [] → Answers text (Err Empty)
+  empty_refused e = record { reads = answers (empty_text tables e); counted = tt }
+
+  module _ {n : ℕ} {rows : List Row} {rest : List ℕ} (u : Turn tables text n rows rest) where
+    pub further_refused : Begins rest → n ≡ row_limit → Answers text (Err TooMany)
+    further_refused h e = record { reads = answers (at_full u h e); counted = tt }
+
+    pub form_refused : Begins rest → (n ≡ row_limit → ⊥) → line_in rest ≡ nothing → Answers text (Err (Malformed n))
+    form_refused h m e = record { reads = answers (at_wrong u h m e); counted = tt }
+
+    pub row_refused : {r : Row} {next : List ℕ} → Begins rest → (n ≡ row_limit → ⊥) → line_in rest ≡ taken r next → (Exists r → ⊥) → Answers text (Err (NotThere n))
+    row_refused h m e x = record { reads = answers (at_not_there u h m e x); counted = tt }
+
+  -- the loop has the table whose rows they are
+  module _ {t : Table} {rest : List ℕ} (u : Turn tables text t.rows.len (rows_of t) rest) where
+    pub row_added : {r : Row} {next : List ℕ} {longer : Table} → Extended t r longer → Begins rest → (t.rows.len ≡ row_limit → ⊥) → line_in rest ≡ taken r next → Exists r → Turn tables text longer.rows.len (rows_of longer) next
+    row_added f h m e x = next_turn u h m e (f.more (omega (arith, u.few, m))) x
+
+    pub table_read : rest ≡ [] → Answers text (Ok t)
+    table_read e = record { reads = answers (at_end u e); counted = u.counted }

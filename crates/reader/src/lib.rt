@@ -11,6 +11,7 @@ mod lines;
 pub mod rest;
 
 // Each line is read where the one before it ended; the first faulty one ends the reading.
+#[tactic(auto, using(crate::proofs::Tables::empty_refused, crate::proofs::Tables::further_refused, crate::proofs::Tables::form_refused, crate::proofs::Tables::row_refused, crate::proofs::Tables::row_added, crate::proofs::Tables::table_read, crate::proofs::Turns::first_turn))]
 pub fn read_text(text: &[u8]) -> Result<Table, Refusal>
     ensures { Answers text.now result }
 {
@@ -24,9 +25,7 @@ pub fn read_text(text: &[u8]) -> Result<Table, Refusal>
         if n == Table::ROWS {
             return Err(Refusal::TooMany);
         }
-        let Some(row) = lines::read_row(&mut rest) else {
-            return Err(Refusal::Malformed(n));
-        };
+        let row = lines::read_row(&mut rest).ok_or(Refusal::Malformed(n))?;
         if !lines::exists(row) {
             return Err(Refusal::NotThere(n));
         }

@@ -8,6 +8,7 @@ ghost use Rattle.table.specs.Decides.{Decides};
 use crate::rest::Rest;
 use table::{Kind, Row, Table};
 
+#[tactic(auto, unfolding(crate::specs::Parts::line_in, crate::specs::Parts::fields_in))]
 pub fn read_row(rest: &mut Rest<'_>) -> Option<Row>
     ensures takes { Takes rest.old rest.new result (line_in rest.old) }
     ensures limit { Table.LINE ≡ line_limit }

@@ -6,6 +6,18 @@ ghost use Rattle.reader.specs.Parts.{Takes, byte_in, digit_in, number_in, field_
 use std::marker::Model;
 use table::Kind;
 
+// `isnot` before `is`, its own beginning.
+const WORDS: [(&[u8], Kind); 8] = [
+    (b"yes", Kind::Yes),
+    (b"no", Kind::No),
+    (b"isnot", Kind::Isnot),
+    (b"is", Kind::Is),
+    (b"any", Kind::Any),
+    (b"all", Kind::All),
+    (b"go", Kind::Go),
+    (b"stop", Kind::Stop),
+];
+
 #[derive(Drop)]
 pub struct Rest<'a> {
     bytes: &'a [u8],
@@ -83,22 +95,9 @@ impl<'a> Rest<'a> {
         self.bytes = rest.bytes;
         Some(number)
     }
-}
 
-// `isnot` before `is`, its own beginning.
-const WORDS: [(&[u8], Kind); 8] = [
-    (b"yes", Kind::Yes),
-    (b"no", Kind::No),
-    (b"isnot", Kind::Isnot),
-    (b"is", Kind::Is),
-    (b"any", Kind::Any),
-    (b"all", Kind::All),
-    (b"go", Kind::Go),
-    (b"stop", Kind::Stop),
-];
-
-impl<'a> Rest<'a> {
     // The kind whose word stands at the front.
+    #[tactic(auto, using(crate::proofs::Words::none_left), unfolding(crate::specs::Parts::first_of, crate::proofs::Words::first_word))]
     pub(crate) fn kind(&mut self) -> Option<Kind>
         ensures takes { Takes self.old self.new result (word_in self.old) }
         ensures stays { IfNone result (self.new ≡ self.old) }
