@@ -1,14 +1,15 @@
 -- A kind's word at the front of a text, and how many bytes words and numbers take.
-use mathlib.Core.Path.{◌≡◌, refl, sym, ◌∙◌}
-use mathlib.Core.List.{List, [], ◌∷◌}
+use mathlib.Core.Path.{◌≡◌, refl, ap, sym, ◌∙◌}
+use mathlib.Core.List.{List, [], ◌∷◌, ◌++◌}
 use mathlib.Core.Bool.{Bool, true, false, cond, ◌&&◌}
 use Prim.Native.Nat.{ℕ, ◌+◌, ◌*◌, ◌<◌, ◌≤◌}
 use native.Mathlib.Omega.{arith}
 use native.Mathlib.Numerals.{add-one}
 use lib.Dec.{eqb}
 use lib.ListN.{length, get_or, take, drop, drop_of_length-le}
-use lib.Pointwise.{pointwise}
+use lib.Pointwise.{pointwise, bytes_decides}
 use lib.Seq.{drop-cons}
+use Rattle.std.proofs.lemmas.List.{take-append-drop}
 use Rattle.std.specs.Borrow.{Bor}
 use Rattle.table.specs.declared.Kind.{Kind}
 use Rattle.table.specs.declared.Row.{Row}
@@ -26,6 +27,11 @@ front (x ∷ s) (b ∷ w) = rw (front s w) (both (eqb x b) _)
     both : (t p : Bool) → cond t p false ≡ (t && p)
     both true p = refl
     both false p = refl
+
+pub stands : (s w : List ℕ) → starts_with s w ≡ true → s ≡ w ++ drop (length w) s
+stands s w e =
+    let f : take (length w) s ≡ w = (bytes_decides (take (length w) s) w).0 (sym (front s w) ∙ e) in
+    sym (take-append-drop (length w) s) ∙ ap (λ (l : List ℕ). l ++ drop (length w) s) f
 
 -- the words that are tried one after another, each with its kind
 abbrev pub Words : Type 0

@@ -13,7 +13,7 @@ use Rattle.table.specs.declared.Row.TheVariants.{Yes, No, Is, Isnot, Any, All, G
 use Rattle.table.specs.Rows.{row_by}
 use Rattle.table.specs.Written.{word, fields, written_fields, written, TwoDigits, Writable}
 use Rattle.reader.specs.Parts.{taken, fields_in, word_of, fields_of, starts_with, first_of, kinds, word_in, line_in}
-use Rattle.reader.proofs.Bytes.{stands}
+use Rattle.reader.proofs.Words.{stands}
 use Rattle.reader.proofs.Numbers.{fields_read, fields_taken, then_taken}
 
 kind_of : Row → Kind

@@ -97,7 +97,6 @@ impl<'a> Rest<'a> {
     }
 
     // The kind whose word stands at the front.
-    #[tactic(auto, using(crate::proofs::Words::none_left), unfolding(crate::specs::Parts::first_of, crate::proofs::Words::first_word))]
     pub(crate) fn kind(&mut self) -> Option<Kind>
         ensures takes { Takes self.old self.new result (word_in self.old) }
         ensures stays { IfNone result (self.new ≡ self.old) }

@@ -1,7 +1,11 @@
--- The word that is tried stands at the front, or the next one is tried.
-use Rattle.std.proofs.Common.{◌∙◌}
-use Rattle.reader.proofs.Words.{word_found, word_missed}
+use Rattle.std.proofs.Common.{refl, ◌∙◌}
+use Rattle.reader.specs.Parts.{first_of}
+use Rattle.reader.proofs.Words.{first_word, word_found, word_missed, none_left}
 use Rattle.reader.proofs.rest.Rest.kind.Goals as goal
+
+pub loop-word-init : goal.loop-word-init
+unfolding first_of first_word
+loop-word-init c = (c.self.view_is, refl)
 
 pub returns-in-Some-clause-takes : goal.returns-in-Some-clause-takes
 returns-in-Some-clause-takes c =
@@ -10,3 +14,6 @@ returns-in-Some-clause-takes c =
 pub loop-word-preserved : goal.loop-word-preserved
 loop-word-preserved c =
     (c.loop-word.invariant.0, c.loop-word.invariant.1 ∙ word_missed _ _ c.loop-word.word-index _ c.loop-word-test.true c.loop-word.self-inside.bytes.now c.loop-word.invariant.0 c.in_default.ensures.cases)
+
+pub returns-clause-takes : goal.returns-clause-takes
+returns-clause-takes c = c.loop-word.invariant.1 ∙ none_left _ _ c.loop-word.word-index c.loop-word-test.false
