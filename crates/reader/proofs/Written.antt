@@ -1,11 +1,12 @@
 -- A line is read as it is written: what is taken off a text is a row of right form as it is written, and a written row is taken again. So no
 -- written row begins another.
-use mathlib.Core.Path.{◌≡◌, refl, ap, sym, subst, ◌∙◌}
+use mathlib.Core.Path.{◌≡◌, refl, sym, subst}
 use mathlib.Core.List.{List, [], ◌∷◌, ◌++◌, append_assoc}
 use mathlib.Core.Bool.{Bool, true, false, cond}
 use Prim.Native.Nat.{ℕ}
 use native.Mathlib.Omega.{arith}
 use lib.ListN.{length, get_or, drop}
+use Rattle.std.proofs.lemmas.Grind.{common_steps}
 use Rattle.table.specs.declared.Kind.{Kind}
 use Rattle.table.specs.declared.Kind.TheVariants as K
 use Rattle.table.specs.declared.Row.{Row}
@@ -52,15 +53,11 @@ line_read r rest h =
 -- the other way
 word_taken : (ks : List Kind) (s : List ℕ) (k : Kind) (rest : List ℕ) → first_of ks s ≡ taken k rest → s ≡ word_of k ++ rest
 unfolding first_of
-word_taken [] s k rest e = absurd (let z : ◌≡◌ {A = ℕ} 0 1 = cc in omega arith)
+word_taken [] s k rest e = grind (arith, common_steps)
 word_taken (j ∷ ks) s k rest e = at (starts_with s (word_of j)) refl (word_taken ks s k rest) e
   where
     at : (t : Bool) → starts_with s (word_of j) ≡ t → (first_of ks s ≡ taken k rest → s ≡ word_of k ++ rest) → cond t (taken j (drop (length (word_of j)) s)) (first_of ks s) ≡ taken k rest → s ≡ word_of k ++ rest
-    at true q f p =
-        let i : j ≡ k = cc in
-        let d : drop (length (word_of j)) s ≡ rest = cc in
-        let w : s ≡ word_of j ++ rest = stands s (word_of j) q ∙ ap (λ (l : List ℕ). word_of j ++ l) d in
-        subst (λ (x : Kind). s ≡ word_of x ++ rest) i w
+    at true q f p = cc (stands s (word_of j) q)
     at false q f p = f p
 
 -- fields of a kind's count make a row of the kind
@@ -70,15 +67,15 @@ record Made (k : Kind) (ns : List ℕ) : Type 0 where
 
 no_field : (ns : List ℕ) → length ns ≡ 0 → [] ≡ ns
 no_field [] e = refl
-no_field (n ∷ ns) e = absurd (omega arith)
+no_field (n ∷ ns) e = grind (arith, common_steps)
 
 one_field : (ns : List ℕ) → length ns ≡ 1 → get_or ns 0 0 ∷ [] ≡ ns
-one_field [] e = absurd (omega arith)
-one_field (n ∷ ns) e = ap (λ (l : List ℕ). n ∷ l) (no_field ns (omega arith))
+one_field [] e = grind (arith, common_steps)
+one_field (n ∷ ns) e = grind (arith, common_steps, no_field ns)
 
 two_fields : (ns : List ℕ) → length ns ≡ 2 → get_or ns 0 0 ∷ (get_or ns 1 0 ∷ []) ≡ ns
-two_fields [] e = absurd (omega arith)
-two_fields (n ∷ ns) e = ap (λ (l : List ℕ). n ∷ l) (one_field ns (omega arith))
+two_fields [] e = grind (arith, common_steps)
+two_fields (n ∷ ns) e = grind (arith, common_steps, one_field ns)
 
 made : (k : Kind) (ns : List ℕ) → length ns ≡ fields_of k → Made k ns
 made K.Yes ns e = record { same_word = refl; same_fields = no_field ns e }
