@@ -1,10 +1,9 @@
-pub mod Inside
-pub mod Stores
-pub mod Placing
-pub mod Says
 pub mod Putting
+pub mod Says
 pub mod Handled
 pub mod Turns
 pub mod Handing
+pub mod Inside
+pub mod Stores
+pub mod Placing
 pub mod Bridge
-pub mod Deciding

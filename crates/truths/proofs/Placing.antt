@@ -1,30 +1,24 @@
--- The list of spots while it is filled, one field of one line after another.
-use Prim.Native.Nat.{ℕ, ◌+◌, ◌*◌, ◌<◌, ◌≤◌}
-use native.Mathlib.Nat.{eq-or-lt_of_le}
-use native.Mathlib.Omega.{arith}
-use mathlib.Core.List.{List}
-use mathlib.Core.Logic.{⊎_elim}
-use mathlib.Core.Path.{◌≡◌, refl, ap, sym, ◌∙◌}
-use lib.ListN.{length, set, replicate, length-set, length-replicate, get_or-replicate}
-use lib.Seq.{get_or-set_same, get_or-set_other}
+-- The spots while they are filled, one field of one line after another.
+use Rattle.std.proofs.Common.{ℕ, zero, suc, ◌+◌, ◌*◌, ◌<◌, ◌≤◌, List, Option, Some, None, ⊎_elim, ◌≡◌, refl, ap, sym, ◌∙◌, length, set, replicate, take, arith}
+use Rattle.std.proofs.Math.Decide.{dec_lt}
+use Rattle.std.proofs.Math.Nat.{eq-or-lt_of_le}
+use Rattle.std.proofs.lemmas.List.{length-set, length-replicate, length-take-le, get_or-take, get_or_past}
 use Rattle.meaning.specs.Table.{Side, first, next, Dir, down, up, Table, counted, names}
-use Rattle.loops.specs.Closing.{number}
 use Rattle.sheets.specs.Lines.{line_limit, link, line_at}
 use Rattle.sheets.specs.Links.{Names, FaultFree}
 use Rattle.sheets.specs.Tree.{Near, below_it, above_it}
 use Rattle.sheets.specs.declared.Line.{Line}
-use Rattle.sheets.specs.declared.Link.{Link}
-use Rattle.sheets.specs.declared.Link.TheVariants.{Dash, To}
-use Rattle.truths.specs.Spots.{name_at, near_at, NearIs, near, none, Spots}
-use Rattle.sheets.proofs.Named.{dash_not_to}
 use Rattle.sheets.proofs.Tree.Naming.{namer_there}
-use Rattle.truths.specs.Placing.{Within, linked, placed}
+use Rattle.truths.specs.Spots.{alone, spot_at, near, near_at, NearIs, there, nowhere, Spots}
+use Rattle.truths.specs.Placing.{Within, with_name, joined, linked, placed}
+use Rattle.truths.specs.declared.spots.Spot.{Spot}
 use Rattle.truths.proofs.Inside.{near_inside}
-use Rattle.truths.proofs.Stores.{numbers, spot, Stored, here, elsewhere, store, names_stay}
+use Rattle.truths.proofs.Stores.{Stored, here, elsewhere, store, names_stay, named, named_other, nears_stay}
 
 -- the fields are numbered from 1 in the order of storing, two for each line
 abbrev turn : Side → ℕ → ℕ
-turn s p = p * 2 + number (down s)
+turn first p = p * 2 + 1
+turn next p = p * 2 + 2
 
 -- the field that a step from p to q goes by
 abbrev by : Dir → ℕ → ℕ → ℕ
@@ -32,14 +26,14 @@ by (down s) p q = turn s p
 by (up s) p q = turn s q
 
 -- `NearIs`, of the first f fields alone
-pub data NearSoFar (lines : List Line) (f : ℕ) (d : Dir) (p : ℕ) : ℕ → Type 0 where
-  so_near : {q : ℕ} → Near lines d p q → by d p q ≤ f → NearSoFar lines f d p q
-  so_none : ((q : ℕ) → Near lines d p q → by d p q ≤ f → ⊥) → NearSoFar lines f d p line_limit
+pub data NearSoFar (lines : List Line) (f : ℕ) (d : Dir) (p : ℕ) : Option ℕ → Type 0 where
+  so_near : {q : ℕ} → Near lines d p q → by d p q ≤ f → NearSoFar lines f d p (Some q)
+  so_none : ((q : ℕ) → Near lines d p q → by d p q ≤ f → ⊥) → NearSoFar lines f d p None
 
-pub record Placing (rows : Table) (lines : List Line) (u f : ℕ) (spots : List ℕ) : Type 0 where
-  pub long : length spots ≡ 5 * line_limit
-  pub names : (p : ℕ) → p < u → name_at spots p ≡ counted rows (line_at lines p).name
-  pub nears : (d : Dir) (p : ℕ) → p < line_limit → NearSoFar lines f d p (near_at spots d p)
+pub record Placing (rows : Table) (lines : List Line) (u f : ℕ) (spots : List Spot) : Type 0 where
+  pub long : length spots ≡ line_limit
+  pub names : (p : ℕ) → p < u → (spot_at spots p).name ≡ counted rows (line_at lines p).name
+  pub nears : (d : Dir) (p : ℕ) → NearSoFar lines f d p (near_at spots d p)
 
 same_turn : (r s : Side) (p u : ℕ) → turn r p ≡ turn s u → (r ≡ s) × (p ≡ u)
 same_turn first first p u e = (refl, omega arith)
@@ -56,31 +50,38 @@ by_there : {lines : List Line} {d : Dir} {p q : ℕ} → Near lines d p q → (0
 by_there (below_it {s = s} {i = i} n) = (omega (arith, turned s i), omega (arith, turned s i, namer_there n))
 by_there (above_it {s = s} {j = j} n) = (omega (arith, turned s j), omega (arith, turned s j, namer_there n))
 
+none_alone : (n p : ℕ) → spot_at (replicate n alone) p ≡ alone
+none_alone zero p = refl
+none_alone (suc n) zero = refl
+none_alone (suc n) (suc p) = none_alone n p
+
+alone_none : (d : Dir) → near alone d ≡ None
+alone_none (down first) = refl
+alone_none (down next) = refl
+alone_none (up first) = refl
+alone_none (up next) = refl
+
 module _ {rows : Table} {lines : List Line} where
-  pub placing_none : Placing rows lines 0 0 (replicate (5 * line_limit) line_limit)
+  pub placing_none : Placing rows lines 0 0 (replicate line_limit alone)
   placing_none = record {
-    long = length-replicate (5 * line_limit) line_limit;
+    long = length-replicate line_limit alone;
     names = λ p h. absurd (omega arith);
-    nears = λ d p h. rw (get_or-replicate (5 * line_limit) (spot d p) line_limit 0 (omega (arith, numbers d))) (so_none (λ q n b. omega (arith, by_there n)));
+    nears = λ d p. rw (ap (λ s. near s d) (none_alone line_limit p) ∙ alone_none d) (so_none (λ q n b. omega (arith, by_there n)));
   }
 
   -- the name of one line more
-  pub name_more : {u f : ℕ} {spots : List ℕ} → u < line_limit → Placing rows lines u f spots → Placing rows lines (u + 1) f (set spots u (counted rows (line_at lines u).name))
+  pub name_more : {u f : ℕ} {spots : List Spot} → u < line_limit → Placing rows lines u f spots → Placing rows lines (u + 1) f (set spots u (with_name (counted rows (line_at lines u).name) (spot_at spots u)))
   name_more {u} {f} {spots} h k =
       let v = counted rows (line_at lines u).name in
+      let inside : u < length spots = omega (arith, k.long) in
       record {
         long = simp length-set k.long;
         names = λ p g. ⊎_elim
-            (λ (e : p ≡ u). rw e (get_or-set_same spots u v 0 (omega (arith, k.long))))
-            (λ (b : p < u). get_or-set_other spots u p v 0 (omega arith) ∙ k.names p b)
+            (λ (e : p ≡ u). rw e (named spots u v inside))
+            (λ (b : p < u). named_other spots u v inside p (λ e. omega arith) ∙ k.names p b)
             (eq-or-lt_of_le (omega arith));
-        nears = λ d p g. rw (get_or-set_other spots u (spot d p) v 0 (omega (arith, numbers d))) (k.nears d p g);
+        nears = λ d p. rw (nears_stay spots u v inside d p) (k.nears d p);
       }
-
--- the converse of a direction down is two numbers on
-upward : (s : Side) → number (down s) + 2 ≡ number (up s)
-upward first = refl
-upward next = refl
 
 -- one field more: that of line u at the side s
 data ByField (lines : List Line) (s : Side) (u : ℕ) : Dir → ℕ → ℕ → Type 0 where
@@ -95,11 +96,11 @@ by_field {s = s} {u = u} (above_it {s = r} {j = j} n) e =
     let b = same_turn r s j u e in
     rw (b.0, b.1) (going_up (rw (b.0, b.1) at n))
 
-named_as : {lines : List Line} {u : ℕ} {s : Side} {l : Link} {q : ℕ} → link s (line_at lines u) ≡ l → Names lines u s q → l ≡ To q
+named_as : {lines : List Line} {u : ℕ} {s : Side} {l : Option ℕ} {q : ℕ} → link s (line_at lines u) ≡ l → Names lines u s q → l ≡ Some q
 named_as e n = sym e ∙ n.names
 
 -- what no step by the new field changes
-so_still : {lines : List Line} {f : ℕ} {d : Dir} {p v : ℕ} → ((q : ℕ) → Near lines d p q → by d p q ≡ f + 1 → ⊥) → NearSoFar lines f d p v → NearSoFar lines (f + 1) d p v
+so_still : {lines : List Line} {f : ℕ} {d : Dir} {p : ℕ} {v : Option ℕ} → ((q : ℕ) → Near lines d p q → by d p q ≡ f + 1 → ⊥) → NearSoFar lines f d p v → NearSoFar lines (f + 1) d p v
 so_still not (so_near n b) = so_near n (omega arith)
 so_still {f = f} {d = d} {p = p} not (so_none g) = so_none (λ q n b. ⊎_elim
     (λ (e : by d p q ≡ f + 1). not q n e)
@@ -108,65 +109,70 @@ so_still {f = f} {d = d} {p = p} not (so_none g) = so_none (λ q n b. ⊎_elim
 
 module _ {lines : List Line} (s : Side) (u f : ℕ) (now-turn : f + 1 ≡ turn s u) (here-line : u < line_limit) where
   -- the field names nothing
-  dashed : {rows : Table} {w : ℕ} {spots : List ℕ} → link s (line_at lines u) ≡ Dash → Placing rows lines w f spots → Placing rows lines w (f + 1) spots
-  dashed e k = record { long = k.long; names = k.names; nears = λ d p h. so_still (λ q n b. not (by_field n (b ∙ now-turn))) (k.nears d p h) }
+  dashed : {rows : Table} {w : ℕ} {spots : List Spot} → link s (line_at lines u) ≡ None → Placing rows lines w f spots → Placing rows lines w (f + 1) spots
+  dashed e k = record { long = k.long; names = k.names; nears = λ d p. so_still (λ q n b. not (by_field n (b ∙ now-turn))) (k.nears d p) }
     where
       not : {d : Dir} {p q : ℕ} → ByField lines s u d p q → ⊥
-      not (going_down n) = dash_not_to (named_as e n)
-      not (going_up n) = dash_not_to (named_as e n)
+      not (going_down n) = cc (named_as e n)
+      not (going_up n) = cc (named_as e n)
 
   -- the field names line j
-  module _ (j : ℕ) (e : link s (line_at lines u) ≡ To j) where
+  module _ (j : ℕ) (e : link s (line_at lines u) ≡ Some j) where
     this : Names lines u s j
     this = record { names = e }
 
-    elsewhere_else : {d : Dir} {p q : ℕ} → (spot d p ≡ spot (down s) u → ⊥) → (spot d p ≡ spot (up s) j → ⊥) → ByField lines s u d p q → ⊥
-    elsewhere_else a b (going_down n) = a refl
-    elsewhere_else a b (going_up {p} n) =
-        let t = named_as e n in
-        let m : p ≡ j = cc in
-        b (ap (spot (up s)) m)
+    elsewhere_else : {d : Dir} {p q : ℕ} → (d ≡ down s → p ≡ u → ⊥) → (d ≡ up s → p ≡ j → ⊥) → ByField lines s u d p q → ⊥
+    elsewhere_else a b (going_down n) = a refl refl
+    elsewhere_else a b (going_up {p} n) = b refl (let t = named_as e n in cc)
 
-    both_ways : {spots one two : List ℕ} {d : Dir} {p : ℕ} → NearSoFar lines f d p (near_at spots d p) → Stored spots (down s) u j one d p → Stored one (up s) j u two d p → NearSoFar lines (f + 1) d p (near_at two d p)
+    both_ways : {spots one two : List Spot} {d : Dir} {p : ℕ} → NearSoFar lines f d p (near_at spots d p) → Stored spots (down s) u j one d p → Stored one (up s) j u two d p → NearSoFar lines (f + 1) d p (near_at two d p)
     both_ways k a (here v) = rw v (so_near (above_it this) (omega arith))
     both_ways k (here v) (elsewhere b w) = rw (w, v) (so_near (below_it this) (omega arith))
     both_ways k (elsewhere a v) (elsewhere b w) = rw (w, v) (so_still (λ q n t. elsewhere_else a b (by_field n (t ∙ now-turn))) k)
 
-    stored : {rows : Table} {w : ℕ} {spots : List ℕ} → j < line_limit → w ≤ line_limit → Placing rows lines w f spots → Placing rows lines w (f + 1) (set (set spots (spot (down s) u) j) (spot (up s) j) u)
-    stored {spots = spots} there room k =
-        let one = set spots (spot (down s) u) j in
-        let one-long : length one ≡ 5 * line_limit = simp length-set k.long in
+    stored : {rows : Table} {w : ℕ} {spots : List Spot} → j < line_limit → Placing rows lines w f spots → Placing rows lines w (f + 1) (joined (up s) j u (joined (down s) u j spots))
+    stored {spots = spots} room k =
+        let one = joined (down s) u j spots in
+        let one-long : length one ≡ line_limit = simp length-set k.long in
+        let low : u < length spots = omega (arith, k.long) in
+        let high : j < length one = omega (arith, one-long) in
         record {
           long = simp length-set k.long;
-          names = λ p h. let b : p < line_limit = omega arith in names_stay one (up s) j u p b ∙ (names_stay spots (down s) u j p b ∙ k.names p h);
-          nears = λ d p h. both_ways (k.nears d p h) (store spots (down s) u j k.long here-line d p h) (store one (up s) j u one-long there d p h);
+          names = λ p h. names_stay one (up s) j u high p ∙ (names_stay spots (down s) u j low p ∙ k.names p h);
+          nears = λ d p. both_ways (k.nears d p) (store spots (down s) u j low d p) (store one (up s) j u high d p);
         }
 
-  pub link_more : {rows : Table} {w : ℕ} {spots : List ℕ} → Within (link s (line_at lines u)) → w ≤ line_limit → Placing rows lines w f spots → Placing rows lines w (f + 1) (linked (number (down s)) u (link s (line_at lines u)) spots)
-  link_more {rows} {w} {spots} there room k = at (link s (line_at lines u)) refl there
+  pub link_more : {rows : Table} {w : ℕ} {spots : List Spot} → Within (link s (line_at lines u)) → Placing rows lines w f spots → Placing rows lines w (f + 1) (linked s u (link s (line_at lines u)) spots)
+  link_more {rows} {w} {spots} room k = at (link s (line_at lines u)) refl room
     where
-      at : (l : Link) → link s (line_at lines u) ≡ l → Within l → Placing rows lines w (f + 1) (linked (number (down s)) u l spots)
-      at Dash e h = dashed e k
-      at (To j) e h = rw (upward s) (stored j e h room k)
+      at : (l : Option ℕ) → link s (line_at lines u) ≡ l → Within l → Placing rows lines w (f + 1) (linked s u l spots)
+      at None e h = dashed e k
+      at (Some j) e h = stored j e h k
 
 module _ {rows : Table} {lines : List Line} where
   -- one line more
-  pub line_more : {u : ℕ} {spots : List ℕ} → u < line_limit → ((s : Side) → Within (link s (line_at lines u))) → Placing rows lines u (u * 2) spots
+  pub line_more : {u : ℕ} {spots : List Spot} → u < line_limit → ((s : Side) → Within (link s (line_at lines u))) → Placing rows lines u (u * 2) spots
       → Placing rows lines (u + 1) ((u + 1) * 2) (placed (names rows) u (line_at lines u) spots)
   unfolding counted
-  line_more {u} {spots} h there k =
-      let a = link_more first u (u * 2) refl h (there first) (omega arith) (name_more h k) in
+  line_more {u} {spots} h room k =
+      let a = link_more first u (u * 2) refl h (room first) (name_more h k) in
       let e : (u + 1) * 2 ≡ u * 2 + 1 + 1 = omega arith in
-      rw e (link_more next u (u * 2 + 1) (omega arith) h (there next) (omega arith) a)
+      rw e (link_more next u (u * 2 + 1) (omega arith) h (room next) a)
 
   -- all lines are placed
-  pub placed_all : {u : ℕ} {spots : List ℕ} → FaultFree lines → length lines ≤ line_limit → u ≡ length lines → Placing rows lines u (u * 2) spots → Spots rows lines spots
+  pub placed_all : {u : ℕ} {spots : List Spot} → FaultFree lines → length lines ≤ line_limit → u ≡ length lines → Placing rows lines u (u * 2) spots → Spots rows lines (take (length lines) spots)
   placed_all {u} {spots} free few e k = record {
-    long = k.long;
-    names = λ p h. k.names p (omega arith);
-    nears = λ d p h. at (k.nears d p (omega arith));
+    long = length-take-le (length lines) spots (omega (arith, k.long));
+    names = λ p h. ap (λ s. s.name) (get_or-take (length lines) spots p alone h) ∙ k.names p (omega arith);
+    nears = λ d p. at d p (dec_lt p (length lines));
   }
     where
-      at : {d : Dir} {p v : ℕ} → NearSoFar lines (u * 2) d p v → NearIs lines d p v
-      at (so_near n b) = near n (near_inside free n)
-      at (so_none g) = none (λ q n. g q n (omega (arith, by_there n)))
+      is : {d : Dir} {p : ℕ} {v : Option ℕ} → NearSoFar lines (u * 2) d p v → NearIs lines d p v
+      is (so_near n b) = there n
+      is (so_none g) = nowhere (λ q n. g q n (omega (arith, by_there n)))
+
+      at : (d : Dir) (p : ℕ) → Dec (p < length lines) → NearIs lines d p (near_at (take (length lines) spots) d p)
+      at d p (yes h) = rw (ap (λ s. near s d) (get_or-take (length lines) spots p alone h)) (is (k.nears d p))
+      at d p (no h) =
+          let past : length (take (length lines) spots) ≤ p = omega (arith, length-take-le (length lines) spots) in
+          rw (ap (λ s. near s d) (get_or_past (take (length lines) spots) p alone past) ∙ alone_none d) (nowhere (λ q n. h (near_inside free n).0))

@@ -1,90 +1,93 @@
 -- One cell more: there is room for it in the queue, it is found, and what was found stays.
-use Prim.Native.Nat.{ℕ, zero, suc, ◌+◌, ◌*◌, ◌<◌, ◌≤◌}
-use native.Mathlib.Decide.{ℕ_discrete}
-use native.Mathlib.Nat.{eq-or-lt_of_le}
-use native.Mathlib.Omega.{arith}
-use mathlib.Core.List.{List}
-use mathlib.Core.Logic.{◌⊎◌, inl, inr, ⊎_elim}
-use mathlib.Core.Path.{◌≡◌, refl, sym, ◌∙◌}
-use borrow.Author.Tests.{ne_eqb}
-use lib.ListN.{length, get_or, set, replicate, length-set, length-replicate}
-use lib.Seq.{get_or-set_same, get_or-set_other}
-use Rattle.meaning.specs.Table.{Table, row_limit}
-use Rattle.counts.proofs.Grown.{zeros}
-use Rattle.loops.specs.Closing.{pairs}
-use Rattle.loops.proofs.Marking.{pairs_most, pairs_more}
+use Rattle.std.proofs.Common.{ℕ, zero, suc, ⊎_elim, ◌+◌, ◌*◌, ◌<◌, ◌≤◌, Bool, true, false, cond, List, ◌≡◌, refl, sym, ◌∙◌, length, get_or, set, replicate, ◌⊎◌, inl, inr, arith}
+use Rattle.std.proofs.Math.Logic.{∥∥₁_map}
+use Rattle.std.proofs.Math.Decide.{ℕ_discrete}
+use Rattle.std.proofs.Math.Nat.{eq-or-lt_of_le}
+use Rattle.std.proofs.lemmas.List.{length-set, get_or-set_same, get_or-set_other}
+use Rattle.std.proofs.lemmas.List.Sums.{sum_by-set, count_by-le-length}
+use Rattle.std.specs.List.{count_by}
+use Rattle.meaning.specs.Table.{row_limit}
 use Rattle.sheets.specs.Lines.{line_limit}
-use Rattle.truths.specs.Search.{Marked, State, state, TrueCell, Searching, Grown}
+use Rattle.truths.specs.Cells.{cell_at}
+use Rattle.truths.specs.Found.{FoundAt, Queued, no_cell}
+use Rattle.truths.specs.declared.cell.Cell.{Cell}
 
-pairs_none : (n : ℕ) → pairs (replicate n 0) ≡ 0
-unfolding pairs
-pairs_none zero = refl
-pairs_none (suc n) = omega (arith, pairs_none n)
+all_false : (n k : ℕ) → get_or (replicate n false) k false ≡ false
+all_false zero k = refl
+all_false (suc n) zero = refl
+all_false (suc n) (suc k) = all_false n k
 
-none_marked : {A : Type 0} (n c : ℕ) → Marked (replicate n 0) c → A
-none_marked n c e = absurd (omega (arith, zeros n c))
+none_counted : (n : ℕ) → count_by (λ (found : Bool). found) (replicate n false) ≡ 0
+none_counted zero = refl
+none_counted (suc n) = none_counted n
 
-pub nothing_found : (rows : Table) (spots : List ℕ) → length rows ≤ row_limit → Searching rows spots (state (replicate (line_limit * row_limit) 0) (replicate (line_limit * row_limit) 0) 0)
-nothing_found rows spots h = record {
-  few = h;
-  long = length-replicate {A = ℕ} (line_limit * row_limit) 0;
-  room = length-replicate {A = ℕ} (line_limit * row_limit) 0;
-  counted = pairs_none (line_limit * row_limit);
-  right = λ c e. none_marked (line_limit * row_limit) c e;
-  queued = λ c e. none_marked (line_limit * row_limit) c e;
-  entered = λ k l. absurd (omega arith);
+pub none_found : (n p i : ℕ) → FoundAt (replicate n false) p i → ⊥
+none_found n p i f = cc (all_false n (cell_at p i), f.1)
+
+pub nothing_found : (n : ℕ) (queue : List Cell) → Queued (replicate n false) queue 0
+nothing_found n queue = record {
+  counted = none_counted n;
+  few = omega arith;
+  entered = λ k h. absurd (omega arith);
+  queued = λ p i f. absurd (none_found n p i f);
 }
 
-pub tail_most : {rows : Table} {spots : List ℕ} {s : State} → Searching rows spots s → s.tail ≤ line_limit * row_limit
-tail_most {s = s} now = omega (arith, pairs_most s.truth, now.counted, now.long)
+module _ (truth : List Bool) (queue : List Cell) (tail : ℕ) (c : Cell) (now : Queued truth queue tail) (unfound : FoundAt truth c.line c.row → ⊥) (long : length truth ≡ line_limit * row_limit) (line : c.line < line_limit) (low : c.row < row_limit) where
+  fits : cell_at c.line c.row < length truth
+  fits = omega arith
 
--- the state with the cell c put in
-abbrev pub with_cell : List ℕ → List ℕ → ℕ → ℕ → State
-with_cell truth queue tail c = state (set truth c 1) (set queue tail c) (tail + 1)
+  was : get_or truth (cell_at c.line c.row) false ≡ false
+  was = at (get_or truth (cell_at c.line c.row) false) refl
+    where
+      at : (b : Bool) → get_or truth (cell_at c.line c.row) false ≡ b → b ≡ false
+      at true e = absurd (unfound (low, e))
+      at false e = refl
 
-module _ {rows : Table} {spots : List ℕ} (truth queue : List ℕ) (tail c : ℕ) (before : Searching rows spots (state truth queue tail)) (fits : c < line_limit * row_limit) (unfound : Marked truth c → ⊥) where
-  one_more : pairs (set truth c 1) ≡ pairs truth + 1
-  one_more = pairs_more truth c (omega (arith, before.long)) (ne_eqb (get_or truth c 0) 1 unfound)
+  one_more : count_by (λ (found : Bool). found) (set truth (cell_at c.line c.row) true) ≡ tail + 1
+  one_more =
+      let s = sum_by-set (λ (b : Bool). cond b 1 0) truth (cell_at c.line c.row) true false fits in
+      omega (arith, rw was at s, now.counted)
 
   pub room_left : tail < line_limit * row_limit
-  room_left = omega (arith, one_more, pairs_most (set truth c 1), length-set truth c 1, before.counted, before.long)
+  room_left = omega (arith, one_more, count_by-le-length (λ (found : Bool). found) (set truth (cell_at c.line c.row) true), length-set truth (cell_at c.line c.row) true)
 
-  pub marked_here : Marked (set truth c 1) c
-  marked_here = get_or-set_same truth c 1 0 (omega (arith, before.long))
+  same_place : (p i : ℕ) → i < row_limit → cell_at p i ≡ cell_at c.line c.row → (p ≡ c.line) × (i ≡ c.row)
+  same_place p i h e = (omega arith, omega arith)
 
-  marked_still : (k : ℕ) → Marked truth k → Marked (set truth c 1) k
-  marked_still k e = at (ℕ_discrete k c)
+  marked : get_or (set truth (cell_at c.line c.row) true) (cell_at c.line c.row) false ≡ true
+  marked = get_or-set_same truth (cell_at c.line c.row) true false fits
+
+  pub found_still : (p i : ℕ) → FoundAt truth p i → FoundAt (set truth (cell_at c.line c.row) true) p i
+  found_still p i f = (f.0, at (ℕ_discrete (cell_at p i) (cell_at c.line c.row)))
     where
-      at : Dec (k ≡ c) → Marked (set truth c 1) k
-      at (yes q) = rw q marked_here
-      at (no n) = get_or-set_other truth c k 1 0 n ∙ e
+      at : Dec (cell_at p i ≡ cell_at c.line c.row) → get_or (set truth (cell_at c.line c.row) true) (cell_at p i) false ≡ true
+      at (yes q) = rw q marked
+      at (no n) = get_or-set_other truth (cell_at c.line c.row) (cell_at p i) true false n ∙ f.1
 
-  marked_then : (k : ℕ) → Marked (set truth c 1) k → (k ≡ c) ⊎ Marked truth k
-  marked_then k e = at (ℕ_discrete k c)
+  pub found_then : (p i : ℕ) → FoundAt (set truth (cell_at c.line c.row) true) p i → FoundAt truth p i ⊎ ((p ≡ c.line) × (i ≡ c.row))
+  found_then p i f = at (ℕ_discrete (cell_at p i) (cell_at c.line c.row))
     where
-      at : Dec (k ≡ c) → (k ≡ c) ⊎ Marked truth k
-      at (yes q) = inl q
-      at (no n) = inr (sym (get_or-set_other truth c k 1 0 n) ∙ e)
+      at : Dec (cell_at p i ≡ cell_at c.line c.row) → FoundAt truth p i ⊎ ((p ≡ c.line) × (i ≡ c.row))
+      at (yes q) = inr (same_place p i f.0 q)
+      at (no n) = inl (f.0, sym (get_or-set_other truth (cell_at c.line c.row) (cell_at p i) true false n) ∙ f.1)
 
-  queue_kept : (k : ℕ) → k < tail → get_or (set queue tail c) k 0 ≡ get_or queue k 0
-  queue_kept k h = get_or-set_other queue tail k c 0 (λ e. omega arith)
+  module _ (room : tail < length queue) where
+    last : get_or (set queue tail c) tail no_cell ≡ c
+    last = get_or-set_same queue tail c no_cell room
 
-  queue_here : get_or (set queue tail c) tail 0 ≡ c
-  queue_here = get_or-set_same queue tail c 0 (omega (arith, before.room, room_left))
+    before : (k : ℕ) → k < tail → get_or (set queue tail c) k no_cell ≡ get_or queue k no_cell
+    before k h = get_or-set_other queue tail k c no_cell (λ e. omega arith)
 
-  pub put_grown : Grown (state truth queue tail) (with_cell truth queue tail c)
-  put_grown = record { longer = omega arith; kept = queue_kept; still = marked_still }
-
-  pub put_searching : TrueCell rows spots c → Searching rows spots (with_cell truth queue tail c)
-  put_searching t = record {
-    few = before.few;
-    long = length-set truth c 1 ∙ before.long;
-    room = length-set queue tail c ∙ before.room;
-    counted = omega (arith, one_more, before.counted);
-    right = λ k e. ⊎_elim (λ (q : k ≡ c). rw q t) (λ m. before.right k m) (marked_then k e);
-    queued = λ k e. ⊎_elim
-        (λ (q : k ≡ c). (tail, omega arith, queue_here ∙ sym q))
-        (λ m. let x = before.queued k m in (x.0, omega (arith, x.1), queue_kept x.0 x.1 ∙ x.2))
-        (marked_then k e);
-    entered = λ k l. ⊎_elim (λ (q : k ≡ tail). rw (q, queue_here) marked_here) (λ (q : k < tail). rw (queue_kept k q) (marked_still (get_or queue k 0) (before.entered k q))) (eq-or-lt_of_le (let h : k ≤ tail = omega arith in h));
-  }
+    pub put : Queued (set truth (cell_at c.line c.row) true) (set queue tail c) (tail + 1)
+    put = record {
+      counted = one_more;
+      few = omega (arith, room_left);
+      entered = λ k h. ⊎_elim
+          (λ (e : k ≡ tail). rw (e, last) (low, marked))
+          (λ (l : k < tail). let f = now.entered k l in rw (before k l) (found_still _ _ f))
+          (eq-or-lt_of_le (let b : k ≤ tail = omega arith in b));
+      queued = λ p i f. ⊎_elim
+          (λ g. ∥∥₁_map (now.queued p i g) (λ x. (x.0, omega (arith, x.1), before x.0 x.1 ∙ x.2)))
+          (λ e. ∣ (tail, omega arith, rw (e.0, e.1) last) ∣₁)
+          (found_then p i f);
+    }

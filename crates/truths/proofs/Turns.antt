@@ -1,42 +1,63 @@
--- A turn of each loop: the next cell of all, and the next row where it rests on a cell.
-use Prim.Native.Nat.{ℕ, ◌+◌, ◌*◌, ◌<◌, ◌≤◌}
-use native.Mathlib.Nat.{eq-or-lt_of_le}
-use native.Mathlib.Omega.{arith}
-use mathlib.Core.List.{List}
-use mathlib.Core.Logic.{inl, inr, ⊎_elim}
-use mathlib.Core.Path.{◌≡◌, refl}
-use lib.ListN.{length}
-use Rattle.meaning.specs.Table.{Table, Row, row_at, row_limit}
-use Rattle.truths.specs.Cells.{cell_at}
-use Rattle.truths.specs.Search.{RestsAt, OnSheet, cell_line, cell_row, State, Handled, Only, Before, Resting, Visitable}
-use Rattle.truths.proofs.Handled.{line_back, handled_then, handled_as}
+-- A turn of each loop: the next line, the next row of a line, and the next row where it rests on a cell.
+use Rattle.std.proofs.Common.{ℕ, Bool, true, false, ◌+◌, ◌<◌, ◌≤◌, List, Some, None, ◌⊎◌, inl, inr, ⊎_elim, ◌≡◌, length, arith}
+use Rattle.std.proofs.Math.Nat.{eq-or-lt_of_le}
+use Rattle.meaning.specs.Table.{Dir, converse, Table, row_at, go_row}
+use Rattle.truths.specs.Spots.{near_at, Laid}
+use Rattle.truths.specs.Search.{Rests, by_name, by_look, RestsAt, Handled, AnyCell, OnLine, Only, Resting}
+use Rattle.truths.specs.declared.cell.Cell.{Cell}
+use Rattle.truths.specs.declared.found.Found.{Found}
+use Rattle.truths.specs.declared.spots.Spot.{Spot}
+use Rattle.truths.proofs.Handled.{handled_then, handled_as}
 
--- the cells before c
-abbrev pub Below : ℕ → ℕ → ℕ → Type 0
-Below c q i = cell_at q i < c
+at_or_below : (i k : ℕ) → i < k + 1 → (i ≡ k) ⊎ (i < k)
+at_or_below i k h = eq-or-lt_of_le (let g : i ≤ k = omega arith in g)
 
--- the rows before the k-th, where they rest on c
-abbrev pub RestingBelow : Table → List ℕ → ℕ → ℕ → ℕ → ℕ → Type 0
-RestingBelow rows spots c k q i = (i < k) × Resting rows spots c q i
+-- the lines before n, and the rows of a line before the n-th
+abbrev pub LinesBelow : ℕ → ℕ → ℕ → Type 0
+LinesBelow n p i = p < n
 
-module _ {rows : Table} {spots : List ℕ} {s t : State} {c : ℕ} where
-  pub seeded_next : {u : State} → Handled rows spots (Below c) s t → Handled rows spots (Only c) t u → Handled rows spots (Below (c + 1)) s u
-  seeded_next a b = handled_then a b (λ q i o l h. let g : cell_at q i ≤ c = omega arith in ⊎_elim (λ (e : cell_at q i ≡ c). inr e) (λ (f : cell_at q i < c). inl f) (eq-or-lt_of_le g))
+abbrev pub RowsBelow : ℕ → ℕ → ℕ → ℕ → Type 0
+RowsBelow line n p i = (p ≡ line) × (i < n)
 
-  pub seeded_all : {n : ℕ} → length rows ≤ row_limit → n * row_limit ≤ c → Handled rows spots (Below c) s t → Handled rows spots (Before n) s t
-  seeded_all few h a = handled_as a (λ q i l k. omega arith)
+-- the rows before the n-th, where they rest on c
+abbrev pub RestingBelow : Table → List Spot → Cell → ℕ → ℕ → ℕ → Type 0
+RestingBelow rows spots c n p i = (i < n) × Resting rows spots c p i
 
-module _ {rows : Table} {spots : List ℕ} {s t : State} (c : ℕ) where
-  pub rested_next : {u : State} {k p : ℕ} → RestsAt spots (row_at rows k) (cell_line c) (cell_row c) p → Handled rows spots (RestingBelow rows spots c k) s t → Handled rows spots (Only (cell_at p k)) t u → Handled rows spots (RestingBelow rows spots c (k + 1)) s u
-  rested_next {k = k} {p = p} at a b = handled_then a b (λ q i o l h. let g : i ≤ k = omega (arith, h.0) in ⊎_elim (λ (e : i ≡ k). inr (only q i o e h.1)) (λ (f : i < k). inl (f, h.1)) (eq-or-lt_of_le g))
-    where
-      only : (q i : ℕ) → OnSheet spots q → i ≡ k → Resting rows spots c q i → cell_at q i ≡ cell_at p k
-      only q i o e r = let f : q ≡ p = at.only q o (rw e at r) in rw (e, f)
+module _ {rows : Table} {spots : List Spot} {s t : Found} where
+  pub line_more : {u : Found} {n : ℕ} → Handled rows spots (LinesBelow n) s t → Handled rows spots (OnLine n) t u → Handled rows spots (LinesBelow (n + 1)) s u
+  line_more {n = n} a b = handled_then a b (λ p i h. ⊎_elim (λ e. inr e) (λ l. inl l) (at_or_below p n h))
 
-  pub rested_all : {k : ℕ} → length rows ≤ k → Handled rows spots (RestingBelow rows spots c k) s t → Handled rows spots (Resting rows spots c) s t
-  rested_all h a = handled_as a (λ q i l r. (omega arith, r))
+  pub lines_all : {n : ℕ} → length spots ≤ n → Handled rows spots (LinesBelow n) s t → Handled rows spots AnyCell s t
+  lines_all h a = handled_as a (λ p i l m k. omega arith)
 
-pub visitable : {spots : List ℕ} {r : Row} {p j q : ℕ} → RestsAt spots r p j q → (i : ℕ) → i < row_limit → Visitable spots (cell_at q i)
-visitable {q = q} at i h l =
-    let e : cell_line (cell_at q i) ≡ q = line_back q i (cell_at q i) h refl in
-    rw e (at.there (rw e at l))
+  module _ {line : ℕ} where
+    pub row_more : {u : Found} {n : ℕ} → Handled rows spots (RowsBelow line n) s t → Handled rows spots (Only (record { line = line; row = n })) t u → Handled rows spots (RowsBelow line (n + 1)) s u
+    row_more {n = n} a b = handled_then a b (λ p i h. ⊎_elim (λ e. inr (h.0, e)) (λ l. inl (h.0, l)) (at_or_below i n h.1))
+
+    pub rows_all : {n : ℕ} → length rows ≤ n → Handled rows spots (RowsBelow line n) s t → Handled rows spots (OnLine line) s t
+    rows_all h a = handled_as a (λ p i l m e. (e, omega arith))
+
+  module _ {c : Cell} where
+    pub rested_more : {u : Found} {n q : ℕ} → RestsAt spots (row_at rows n) c (Some q) → Handled rows spots (RestingBelow rows spots c n) s t → Handled rows spots (Only (record { line = q; row = n })) t u
+        → Handled rows spots (RestingBelow rows spots c (n + 1)) s u
+    rested_more {n = n} {q = q} at a b = handled_then a b (λ p i h. ⊎_elim (λ e. inr (only p i e h.1, e)) (λ l. inl (l, h.1)) (at_or_below i n h.0))
+      where
+        only : (p i : ℕ) → i ≡ n → Resting rows spots c p i → p ≡ q
+        only p i e r = cc (at.only p (rw e at r))
+
+    pub rested_not : {n : ℕ} → RestsAt spots (row_at rows n) c None → Handled rows spots (RestingBelow rows spots c n) s t → Handled rows spots (RestingBelow rows spots c (n + 1)) s t
+    rested_not {n = n} at a = handled_as a (λ p i l m h. ⊎_elim (λ e. absurd (not p i e h.1)) (λ g. (g, h.1)) (at_or_below i n h.0))
+      where
+        not : (p i : ℕ) → i ≡ n → Resting rows spots c p i → ⊥
+        not p i e r = cc (at.only p (rw e at r))
+
+    pub rested_all : {n : ℕ} → length rows ≤ n → Handled rows spots (RestingBelow rows spots c n) s t → Handled rows spots (Resting rows spots c) s t
+    rested_all h a = handled_as a (λ p i l m r. (omega arith, r))
+
+-- where a `go` row rests on a cell: its direction leads back from there
+pub rests_back : (spots : List Spot) → Laid spots → (d : Dir) (c : Cell) → RestsAt spots (go_row d c.row) c (near_at spots (converse d) c.line)
+rests_back spots laid d c = record { only = only }
+  where
+    only : (k : ℕ) → Rests spots (go_row d c.row) k c.line c.row → near_at spots (converse d) c.line ≡ Some k
+    only k (by_name e r) = absurd (let z : ◌≡◌ {A = Bool} false true = r in cc)
+    only k (by_look {d = e} r n) = let same : d ≡ e = cc in rw same (laid.back e k c.line n)

@@ -1,179 +1,117 @@
-// The truth of each row at each line. A cell is one row at one line; each cell found true is handed on once to the cells that rest on it.
-ghost use Rattle.std.specs.Prelude.{◌≡◌, ◌+◌, ◌*◌, ◌<◌, ◌≤◌, get_or, length};
-ghost use Rattle.meaning.specs.Table.{row_limit, InRange};
+// The truth of each row at each line: each cell found true is handed on once to the cells that rest on it.
+ghost use Rattle.std.specs.Prelude.{◌≡◌};
 ghost use Rattle.table.specs.Decides.{Decides};
-ghost use Rattle.table.specs.Rows.{row_of, meant, dir_of, table_in};
-ghost use Rattle.sheets.specs.Lines.{line_limit};
-ghost use Rattle.truths.specs.Spots.{near_at, Laid};
-ghost use Rattle.truths.specs.Search.{FoundAt, Says, RestsAt, OnSheet, cell_line, cell_row, state, Searching, Handled, Only, Before, Resting, Visitable, Fresh, Settled};
+ghost use Rattle.table.specs.Rows.{meant, table_in};
+ghost use Rattle.truths.specs.Found.{FoundAt};
+ghost use Rattle.truths.specs.Search.{Says, SaidAt, RestsAt, Handled, OnLine, AnyCell, Only, Resting, Settled};
 
-use crate::{CELLS, SPOTS};
-use loops::rules::{number_back, number_of, refers_to};
-use sheets::Sheet;
-use table::{Row, Table};
+use crate::CELLS;
+use crate::asked::Asked;
+use crate::cell::Cell;
+use crate::found::Found;
+use crate::spots::Spot;
+use loops::rules::refers_to;
+use table::Row;
+use table::direction::Direction;
 
-// Whether each row is true at each line.
-pub(crate) fn settle(cells: &[u32], spots: &[u8; SPOTS], n: usize) -> [u8; CELLS]
-    requires { (length cells.now ≤ row_limit) × InRange (table_in cells.now) × Laid n spots.now }
-    ensures { Settled (table_in cells.now) spots.now n result }
-{
-    let mut truth = [0u8; CELLS];
-    let mut queue = [0u16; CELLS];
-    let mut tail = seed(cells, spots, n, &mut truth, &mut queue);
-    let mut head: usize = 0;
-    while head < tail {
-        let at = queue[head] as usize;
-        tail = hand_on(cells, spots, &mut truth, &mut queue, tail, at);
-        head += 1;
+impl Asked<'_> {
+    // Whether each row is true at each line.
+    pub(crate) fn settle(&self) -> [bool; CELLS]
+        ensures { Settled (table_in self.now.rows.now) self.now.spots.now result }
+    {
+        let mut found = Found::new();
+        self.seed(&mut found);
+        // An index by hand: the queue grows while it is read, so no iterator can go over it.
+        let mut head: usize = 0;
+        while head < found.queue.len {
+            let cell = found.queue.items[head];
+            self.hand_on(&mut found, cell);
+            head += 1;
+        }
+        found.truth
     }
-    truth
+
+    // Finds what is true by itself.
+    fn seed(&self, found: &mut Found)
+        ensures { Handled (table_in self.now.rows.now) self.now.spots.now AnyCell found.old found.new }
+    {
+        for line in 0..self.spots.len() as u8 {
+            self.seed_line(found, line);
+        }
+    }
+
+    fn seed_line(&self, found: &mut Found, line: u8)
+        ensures { Handled (table_in self.now.rows.now) self.now.spots.now (OnLine line) found.old found.new }
+    {
+        for row in 0..self.rows.len() as u8 {
+            self.visit(found, Cell { line, row });
+        }
+    }
+
+    // Visits each row where it rests on the cell.
+    fn hand_on(&self, found: &mut Found, cell: Cell)
+        ensures { Handled (table_in self.now.rows.now) self.now.spots.now (Resting (table_in self.now.rows.now) self.now.spots.now cell) found.old found.new }
+    {
+        for (i, row) in self.rows.iter().enumerate() {
+            if let Some(line) = self.rests_at(*row, cell) {
+                self.visit(found, Cell { line, row: i as u8 });
+            }
+        }
+    }
+
+    // A cell that is true by what is found is found.
+    fn visit(&self, found: &mut Found, cell: Cell)
+        ensures { Handled (table_in self.now.rows.now) self.now.spots.now (Only cell) found.old found.new }
+    {
+        if self.is_said(found, cell) {
+            found.enter(cell);
+        }
+    }
+
+    // A cell of no row or of no line is never true.
+    fn is_said(&self, found: &Found, cell: Cell) -> bool
+        ensures { Decides result (SaidAt (table_in self.now.rows.now) self.now.spots.now found.now.truth cell.line cell.row) }
+    {
+        match (
+            self.rows.get(usize::from(cell.row)),
+            self.spots.get(usize::from(cell.line)),
+        ) {
+            (Some(row), Some(spot)) => says(*row, spot, found, cell.line),
+            _ => false,
+        }
+    }
+
+    // The line at which what a row says rests on a cell, if there is one.
+    fn rests_at(&self, row: Row, cell: Cell) -> Option<u8>
+        ensures { RestsAt self.now.spots.now (meant row) cell result }
+    {
+        if refers_to(row, usize::from(cell.row)) {
+            return Some(cell.line);
+        }
+        match row {
+            Row::Go(d, i) if i == cell.row => self
+                .spots
+                .get(usize::from(cell.line))?
+                .near(Direction::of(d).converse()),
+            _ => None,
+        }
+    }
 }
 
-// Finds what is true by itself at each of n lines: the queue's end.
-fn seed(
-    cells: &[u32],
-    spots: &[u8; SPOTS],
-    n: usize,
-    truth: &mut [u8; CELLS],
-    queue: &mut [u16; CELLS],
-) -> usize
-    requires { Laid n spots.now × Searching (table_in cells.now) spots.now (state truth.old queue.old 0) }
-    ensures { Handled (table_in cells.now) spots.now (Before n) (state truth.old queue.old 0) (state truth.new queue.new result) }
+// Whether a row is true by what is found, at a line of which the spot tells.
+fn says(row: Row, spot: &Spot, found: &Found, line: u8) -> bool
+    ensures { Decides result (Says spot.now (FoundAt found.now.truth) (meant row) line) }
 {
-    let mut tail: usize = 0;
-    for at in 0..n * Table::ROWS {
-        tail = visit(cells, spots, truth, queue, tail, at);
-    }
-    tail
-}
-
-// Visits each row where it rests on the cell.
-fn hand_on(
-    cells: &[u32],
-    spots: &[u8; SPOTS],
-    truth: &mut [u8; CELLS],
-    queue: &mut [u16; CELLS],
-    tail: usize,
-    at: usize,
-) -> usize
-    requires { Searching (table_in cells.now) spots.now (state truth.old queue.old tail) × OnSheet spots.now (cell_line at) }
-    ensures { Handled (table_in cells.now) spots.now (Resting (table_in cells.now) spots.now at) (state truth.old queue.old tail) (state truth.new queue.new result) }
-{
-    let mut end = tail;
-    for i in 0..cells.len() {
-        let p = rests_at(cells[i], spots, at);
-        end = visit(cells, spots, truth, queue, end, p * Table::ROWS + i);
-    }
-    end
-}
-
-// Puts a cell into the queue where it is newly true: the queue's end.
-fn visit(
-    cells: &[u32],
-    spots: &[u8; SPOTS],
-    truth: &mut [u8; CELLS],
-    queue: &mut [u16; CELLS],
-    tail: usize,
-    at: usize,
-) -> usize
-    requires { Searching (table_in cells.now) spots.now (state truth.old queue.old tail) × Visitable spots.now at }
-    ensures { Handled (table_in cells.now) spots.now (Only at) (state truth.old queue.old tail) (state truth.new queue.new result) }
-{
-    if is_new(cells, spots, truth, at) {
-        truth[at] = 1;
-        queue[tail] = at as u16;
-        return tail + 1;
-    }
-    tail
-}
-
-// A cell of no row or of no line is never new.
-fn is_new(cells: &[u32], spots: &[u8; SPOTS], truth: &[u8; CELLS], at: usize) -> bool
-    ensures { Fresh (table_in cells.now) spots.now truth.now at result }
-{
-    let i = at % Table::ROWS;
-    if cells.len() <= i {
-        return false;
-    }
-    if CELLS <= at {
-        return false;
-    }
-    if truth[at] == 1 {
-        return false;
-    }
-    says(cells[i], spots, truth, at / Table::ROWS)
-}
-
-// Whether a row is true at line p by what is found.
-fn says(cell: u32, spots: &[u8; SPOTS], truth: &[u8; CELLS], p: usize) -> bool
-    requires { p < line_limit }
-    ensures { Decides result (Says spots.now (FoundAt truth.now) (meant (row_of cell)) p) }
-{
-    let row = table::row_of(cell);
     match row {
         Row::Yes => true,
         Row::No => false,
-        Row::Is(n) => spots[p] == n,
-        Row::Isnot(n) => spots[p] != n,
-        Row::Any(i, j) => is_found(truth, p, i) || is_found(truth, p, j),
-        Row::All(i, j) => is_found(truth, p, i) && is_found(truth, p, j),
-        Row::Go(d, i) => found_near(spots, truth, d, p, i),
-        Row::Stop(d) => Sheet::LINES <= near(spots, number_of(d), p),
+        Row::Is(n) => spot.name == n,
+        Row::Isnot(n) => spot.name != n,
+        Row::Any(i, j) => found.has(Cell { line, row: i }) || found.has(Cell { line, row: j }),
+        Row::All(i, j) => found.has(Cell { line, row: i }) && found.has(Cell { line, row: j }),
+        Row::Go(d, row) => spot
+            .near(Direction::of(d))
+            .is_some_and(|line| found.has(Cell { line, row })),
+        Row::Stop(d) => spot.near(Direction::of(d)).is_none(),
     }
-}
-
-fn found_near(spots: &[u8; SPOTS], truth: &[u8; CELLS], d: u8, p: usize, i: u8) -> bool
-    requires { p < line_limit }
-    ensures { Decides result ((near_at spots.now (dir_of d) p < line_limit) × FoundAt truth.now (near_at spots.now (dir_of d) p) i) }
-{
-    let q = near(spots, number_of(d), p);
-    if q < Sheet::LINES {
-        return is_found(truth, q, i);
-    }
-    false
-}
-
-// A row beyond the 48 that there may be is found nowhere.
-fn is_found(truth: &[u8; CELLS], p: usize, i: u8) -> bool
-    requires { p < line_limit }
-    ensures { Decides result (FoundAt truth.now p i) }
-{
-    let row = i as usize;
-    if row < Table::ROWS {
-        return truth[p * Table::ROWS + row] == 1;
-    }
-    false
-}
-
-// The line at which what a row says rests on a cell, or 255 for none.
-fn rests_at(cell: u32, spots: &[u8; SPOTS], at: usize) -> usize
-    requires { OnSheet spots.now (cell_line at) }
-    ensures { RestsAt spots.now (meant (row_of cell)) (cell_line at) (cell_row at) result }
-{
-    if refers_to(cell, at % Table::ROWS) {
-        return at / Table::ROWS;
-    }
-    let row = table::row_of(cell);
-    let Row::Go(d, i) = row else {
-        return Sheet::LINES;
-    };
-    if i as usize == at % Table::ROWS {
-        return near(spots, number_back(d), at / Table::ROWS);
-    }
-    Sheet::LINES
-}
-
-// The neighbour of line p in a direction by its number, or 255.
-fn near(spots: &[u8; SPOTS], d: u8, p: usize) -> usize
-    requires { (d ≤ 4) × (p < line_limit) }
-    ensures { (result ≡ get_or spots.now (d * line_limit + p) 0) × (result ≤ line_limit) }
-{
-    wide(spots[d as usize * Sheet::LINES + p])
-}
-
-// Its contract says what a byte's type does: at most 255.
-fn wide(x: u8) -> usize
-    ensures { (result ≡ x) × (result ≤ line_limit) }
-{
-    x as usize
 }

@@ -1,56 +1,98 @@
-// What a sheet's lines are to a search for truths: each line's counted name, and its neighbours in the four directions of 01.
-ghost use Rattle.std.specs.Prelude.{◌≡◌, ◌<◌, ◌≤◌, length};
+// What a sheet's lines are to a search for truths: each line's counted name, and its neighbours.
+ghost use Rattle.std.specs.Prelude.{◌≡◌, ◌<◌, ◌≤◌, length, take};
 ghost use Rattle.std.proofs.Math.Logic.{ite};
 ghost use Rattle.std.proofs.Math.Decide.{dec_lt};
+ghost use Rattle.table.specs.Directions.{dir, side};
 ghost use Rattle.table.specs.Rows.{table_in};
-ghost use Rattle.sheets.specs.Lines.{line_limit, line_of, lines_in};
+ghost use Rattle.sheets.specs.Lines.{line_limit};
 ghost use Rattle.sheets.specs.Links.{FaultFree};
-ghost use Rattle.truths.specs.Spots.{Spots};
-ghost use Rattle.truths.specs.Placing.{Within, linked, placed};
+ghost use Rattle.truths.specs.Spots.{near, Spots};
+ghost use Rattle.truths.specs.Placing.{Within, with_near, linked, placed};
 
-use crate::{NONE, SPOTS};
-use sheets::{Link, Sheet};
+use sheets::{Line, Sheet};
+use table::Row;
+use table::direction::{Direction, Side};
 
-// For each line its counted name and its neighbours.
-pub(crate) fn spots_of(cells: &[u32], lines: &[u32]) -> [u8; SPOTS]
-    requires { (length lines.now ≤ line_limit) × FaultFree (lines_in lines.now) }
-    ensures { Spots (table_in cells.now) (lines_in lines.now) result }
+// A line, by its name and the lines in directions 1 to 4 from it: its first child and next sibling, and the lines that have it for theirs.
+#[derive(Clone, Copy)]
+pub(crate) struct Spot {
+    pub name: u8,
+    pub first: Option<u8>,
+    pub next: Option<u8>,
+    pub first_of: Option<u8>,
+    pub next_of: Option<u8>,
+}
+
+impl Spot {
+    // A line that has no neighbour.
+    const ALONE: Spot = Spot {
+        name: 0,
+        first: None,
+        next: None,
+        first_of: None,
+        next_of: None,
+    };
+
+    pub(crate) fn near(&self, d: Direction) -> Option<u8>
+        ensures { result ≡ near self.now (dir d) }
+    {
+        match d {
+            Direction::Down(Side::First) => self.first,
+            Direction::Down(Side::Next) => self.next,
+            Direction::Up(Side::First) => self.first_of,
+            Direction::Up(Side::Next) => self.next_of,
+        }
+    }
+
+    fn set_near(&mut self, d: Direction, line: u8)
+        ensures { self.new ≡ with_near (dir d) line self.old }
+    {
+        match d {
+            Direction::Down(Side::First) => self.first = Some(line),
+            Direction::Down(Side::Next) => self.next = Some(line),
+            Direction::Up(Side::First) => self.first_of = Some(line),
+            Direction::Up(Side::Next) => self.next_of = Some(line),
+        }
+    }
+}
+
+// One for each line, and none of any meaning after them.
+pub(crate) fn spots_of(rows: &[Row], lines: &[Line]) -> [Spot; Sheet::LINES]
+    requires { (length lines.now ≤ line_limit) × FaultFree lines.now }
+    ensures { Spots (table_in rows.now) lines.now (take (length lines.now) result) }
 {
-    let n = counts::names_of(cells);
-    let mut spots = [NONE; SPOTS];
-    for p in 0..lines.len() {
-        put_line(&mut spots, p, n, lines[p]);
+    let n = counts::names_of(rows);
+    let mut spots = [Spot::ALONE; Sheet::LINES];
+    for (p, line) in lines.iter().enumerate() {
+        put_line(&mut spots, p, n, *line);
     }
     spots
 }
 
-fn put_line(spots: &mut [u8; SPOTS], p: usize, n: usize, cell: u32)
-    requires { (p < line_limit) × Within (line_of cell).first × Within (line_of cell).next }
-    ensures { spots.new ≡ placed n p (line_of cell) spots.old }
+fn put_line(spots: &mut [Spot; Sheet::LINES], p: usize, n: usize, line: Line)
+    requires { (p < line_limit) × Within line.first × Within line.next }
+    ensures { spots.new ≡ placed n p line spots.old }
 {
-    let line = sheets::line_of(cell);
-    let first = line.first;
-    let next = line.next;
-    spots[p] = counted_name(line.name, n);
-    put_link(spots, p, 1, first);
-    put_link(spots, p, 2, next);
+    spots[p].name = counted_name(line.name, n);
+    put_link(spots, p, Side::First, line.first);
+    put_link(spots, p, Side::Next, line.next);
 }
 
-// 01's section 2: a real name of N or above counts as 0.
+// A real name of N or above counts as 0.
 fn counted_name(name: u8, n: usize) -> u8
     ensures { result ≡ ite (dec_lt name n) name 0 }
 {
-    if (name as usize) < n { name } else { 0 }
+    if usize::from(name) < n { name } else { 0 }
 }
 
-// A step down is a step up from where it leads: direction 3 is the converse of 1, and 4 that of 2.
-fn put_link(spots: &mut [u8; SPOTS], p: usize, side: usize, link: Link)
-    requires { (p < line_limit) × (side ≤ 2) × Within link }
-    ensures { spots.new ≡ linked side p link spots.old }
+// A step down is a step up from where it leads.
+fn put_link(spots: &mut [Spot; Sheet::LINES], p: usize, s: Side, link: Option<u16>)
+    requires { (p < line_limit) × Within link }
+    ensures { spots.new ≡ linked (side s) p link spots.old }
 {
-    if let Link::To(q) = link {
-        let q = q as usize;
-        spots[side * Sheet::LINES + p] = q as u8;
-        spots[(side + 2) * Sheet::LINES + q] = p as u8;
+    if let Some(q) = link {
+        let q = usize::from(q);
+        spots[p].set_near(Direction::Down(s), q as u8);
+        spots[q].set_near(Direction::Up(s), p as u8);
     }
 }

@@ -1,13 +1,13 @@
 -- What is laid out is fit for the search, and what the search settles is decided on the tree.
-use Rattle.truths.proofs.Deciding.{fit, decided}
+use Rattle.truths.proofs.Bridge.{laid, decided}
 use Rattle.truths.proofs.truths_of.Goals as goal
 
-pub settle-requires : goal.settle-requires
-settle-requires c =
+pub invariant_of-asked : goal.invariant_of-asked
+invariant_of-asked c =
     let p = c.requires in
-    (p.0, p.1, fit c.args.cells.now c.args.lines.now _ p.2 p.3 c.spots_of-spots.ensures)
+    record { few = p.0; in_range = p.1; laid = laid _ c.args.lines.now _ p.2 p.3 c.spots_of-spots.ensures }
 
 pub returns : goal.returns
 returns c =
     let p = c.requires in
-    decided c.args.cells.now c.args.lines.now _ p.2 p.3 c.spots_of-spots.ensures _ c.settle.ensures
+    decided _ c.args.lines.now _ p.2 p.3 c.spots_of-spots.ensures _ c.settle.ensures

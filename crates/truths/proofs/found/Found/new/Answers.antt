@@ -1,0 +1,5 @@
+use Rattle.truths.proofs.Putting.{nothing_found}
+use Rattle.truths.proofs.found.Found.new.Goals as goal
+
+pub invariant_of-result : goal.invariant_of-result
+invariant_of-result c = record { queued = nothing_found 12240 _ }
