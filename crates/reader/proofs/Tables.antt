@@ -3,24 +3,22 @@ use mathlib.Core.Path.{◌≡◌, refl, subst}
 use mathlib.Core.List.{List, [], ◌∷◌, ◌++◌}
 use Prim.Native.Nat.{ℕ, ◌≤◌}
 use native.Mathlib.Decide.{dec_le}
+use native.Mathlib.Omega.{arith}
+use Rattle.std.specs.Prelude.{Ok, Err}
 use Rattle.meaning.specs.Table.{row_limit}
 use Rattle.table.specs.declared.Row.{Row}
 use Rattle.table.specs.declared.Row.TheVariants.{Yes, No, Is, Isnot, Any, All, Go, Stop}
 use Rattle.table.specs.declared.Table.{Table}
-use Rattle.table.specs.Rows.{rows_of, Extended}
-use Rattle.std.specs.Prelude.{Ok, Err}
-use native.Mathlib.Omega.{arith}
-use Rattle.reader.specs.Parts.{taken}
-use Rattle.reader.specs.Reading.{Begins}
 use Rattle.table.specs.declared.refusal.Refusal.TheVariants.{Empty, Malformed, TooMany, NotThere}
-use Rattle.reader.proofs.Turns.{Turn, empty_text, at_end, at_full, at_wrong, at_not_there, next_turn}
+use Rattle.table.specs.Rows.{rows_of, Extended}
 use Rattle.table.specs.Written.{written, written_rows, Writable, Direction, Exists}
-use Rattle.reader.specs.Parts.{nothing, line_in, first_of, starts_with}
-use Rattle.reader.specs.Reading.{Reading, rows_read, refused, Sound, none, more, Reads, empty, malformed, too_many, not_there, read, Answers}
+use Rattle.reader.specs.Parts.{taken, nothing, line_in, first_of, starts_with}
+use Rattle.reader.specs.Reading.{Reading, rows_read, refused, Sound, none, more, Begins, Reads, empty, malformed, too_many, not_there, read, Answers}
 use Rattle.reader.proofs.Written.{line_read, line_taken}
 use Rattle.reader.proofs.Scan.{Kind, reading}
 use Rattle.reader.proofs.Settled as settled
 use Rattle.reader.proofs.Settled.{Ends, ends}
+use Rattle.reader.proofs.Turns.{Turn, empty_text, first_turn, at_end, at_full, at_wrong, at_not_there, next_turn}
 
 dec_direction : (d : ℕ) → Dec (Direction d)
 dec_direction d = both (dec_le 1 d) (dec_le d 4)
@@ -128,3 +126,6 @@ module _ {text : List ℕ} where
 
     pub table_read : rest ≡ [] → Answers text (Ok t)
     table_read e = record { reads = answers (at_end u e); counted = u.counted }
+
+-- what the proof of `read_text` uses
+pub ruleset steps = (first_turn, empty_refused, further_refused, form_refused, row_refused, table_read)

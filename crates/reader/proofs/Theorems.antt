@@ -1,12 +1,13 @@
 -- The theorems of specs/Theorems.
 use mathlib.Core.Path.{◌≡◌, refl, ap, sym, ◌∙◌}
 use mathlib.Core.List.{List, [], ◌∷◌, append-nil}
-use mathlib.Core.Bool.{Bool, true, false, cond}
-use Prim.Native.Nat.{ℕ, ◌+◌, ◌*◌, ◌/◌, ◌%◌, ◌≤◌}
+use mathlib.Core.Bool.{cond}
+use Prim.Native.Nat.{ℕ, ◌+◌, ◌*◌, ◌≤◌}
 use native.Mathlib.Omega.{arith}
-use lib.Dec.{eqb, ltb}
+use lib.Dec.{eqb}
 use lib.ListN.{length, length-append}
 use Rattle.std.specs.Prelude.{Ok, Err}
+use Rattle.std.proofs.lemmas.Grind.{common_steps}
 use Rattle.table.specs.declared.refusal.Refusal.{Refusal}
 use Rattle.table.specs.declared.refusal.Refusal.TheVariants.{Empty, Malformed, TooMany, NotThere, Missing, Looping, Large, NoRoom, MalformedLine, FaultyLine}
 use Rattle.table.specs.Refusals.{number_of, place_of}
@@ -50,8 +51,8 @@ one_answer text (Ok t) (Ok u) a b =
     let m : rows_of t ≡ rows_of u = let e = (one_reading text).unique a.reads b.reads in cc in
     record { count = a.counted ∙ ap length m ∙ sym b.counted; rows = m }
 one_answer text (Err r) (Err q) a b = same_refusal r q ((one_reading text).unique a.reads b.reads)
-one_answer text (Ok t) (Err q) a b = let e = (one_reading text).unique a.reads b.reads in let z : ◌≡◌ {A = ℕ} 0 1 = cc in omega arith
-one_answer text (Err r) (Ok u) a b = let e = (one_reading text).unique a.reads b.reads in let z : ◌≡◌ {A = ℕ} 0 1 = cc in omega arith
+one_answer text (Ok t) (Err q) a b = grind (arith, common_steps, (one_reading text).unique a.reads b.reads)
+one_answer text (Err r) (Ok u) a b = grind (arith, common_steps, (one_reading text).unique a.reads b.reads)
 
 pub reads_back : ReadsBack
 reads_back rows s l h =
@@ -69,11 +70,7 @@ one_row text = record { same = λ r q end other v w e f. one_item tables r q end
 -- a field takes at most its tab and two digits
 decimal_length : (n : ℕ) → length (decimal n) ≤ 2
 unfolding decimal
-decimal_length n = at (ltb n 10)
-  where
-    at : (t : Bool) → length (cond t ((48 + n) ∷ []) ((48 + n / 10) ∷ ((48 + n % 10) ∷ []))) ≤ 2
-    at true = omega arith
-    at false = omega arith
+decimal_length n = grind (arith, common_steps)
 
 fields_length : (ns : List ℕ) → length (written_fields ns) ≤ 3 * length ns + 1
 unfolding written_fields

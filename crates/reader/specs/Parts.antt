@@ -1,5 +1,4 @@
--- What the readers of one line take off the front of a text, part by part. Only contracts inside this crate cite it; what a whole text gives
--- is said in Reading without it.
+-- What the readers of one line take off the front of a text, part by part. What a whole text gives is said in Reading without it.
 use Rattle.std.specs.Prelude.{ℕ, zero, suc, ◌+◌, ◌-◌, ◌*◌, Bool, true, false, cond, List, [], ◌∷◌, ◌≡◌, eqb, leb, length, get_or, drop, Option, MatchOption}
 use Rattle.table.specs.declared.Kind.{Kind}
 use Rattle.table.specs.declared.Kind.TheVariants.{Yes, No, Is, Isnot, Any, All, Go, Stop}

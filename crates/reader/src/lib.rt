@@ -11,7 +11,7 @@ mod lines;
 pub mod rest;
 
 // Each line is read where the one before it ended; the first faulty one ends the reading.
-#[tactic(auto, using(crate::proofs::Tables::empty_refused, crate::proofs::Tables::further_refused, crate::proofs::Tables::form_refused, crate::proofs::Tables::row_refused, crate::proofs::Tables::row_added, crate::proofs::Tables::table_read, crate::proofs::Turns::first_turn))]
+#[tactic(auto, using(crate::proofs::Tables::steps))]
 pub fn read_text(text: &[u8]) -> Result<Table, Refusal>
     ensures { Answers text.now result }
 {
