@@ -1,4 +1,3 @@
-pub mod Judging
 pub mod Inside
 pub mod Theorems
-pub mod Given
+pub mod Judging

@@ -12,9 +12,7 @@ use Rattle.meaning.proofs.Tests.{false≢true}
 use Rattle.table.specs.declared.Row.{Row}
 use Rattle.reader.specs.Reading.{Reading, Reads, Sound, rows_read, refused, empty, malformed, too_many, not_there, read}
 use Rattle.reader.proofs.Theorems.{one_reading}
-use Rattle.loops.specs.Judged.{Judged, fine, missing, looping, large}
-use Rattle.loops.specs.declared.Checked.{Checked}
-use Rattle.loops.specs.declared.Checked.TheVariants.{Fine, Missing, Looping, Large}
+use Rattle.loops.specs.Judged.{Checked, Fine, Missing, Looping, Large, Judged, fine, missing, looping, large}
 use Rattle.loops.proofs.Unique.{judged_unique}
 use Rattle.loops.proofs.Exists.{judged_exists}
 use Rattle.intake.proofs.Inside.{names_inside, loop_inside}

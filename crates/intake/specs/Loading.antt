@@ -1,15 +1,14 @@
 -- 01, section 6: what a text gives, an accepted table or one of refusals 1 to 7 with its place.
-use Rattle.std.specs.Prelude.{ℕ, ◌<◌, ◌≤◌, Bool, true, false, cond, List, map, ◌≡◌, length}
+use Rattle.std.specs.Prelude.{ℕ, ◌<◌, ◌≤◌, Bool, true, false, cond, List, map, ◌≡◌, length, Result, Ok, Err, IfOk}
 use Rattle.meaning.specs.Table as M
 use Rattle.meaning.specs.Loop.{LoopFree}
 use Rattle.meaning.specs.Outcome.{Accepted}
 use Rattle.table.specs.Rows.{meant, rows_of}
 use Rattle.table.specs.declared.Row.{Row}
-use Rattle.table.specs.declared.Table.{Table}
+use Rattle.table.specs.declared.refusal.Refusal.{Refusal}
+use Rattle.table.specs.Refusals.{number_of, place_of}
 use Rattle.reader.specs.Reading.{Reading, Reads, Sound, rows_read, refused}
-use Rattle.loops.specs.Judged.{Judged}
-use Rattle.loops.specs.declared.Checked.{Checked}
-use Rattle.loops.specs.declared.Checked.TheVariants.{Fine, Missing, Looping, Large}
+use Rattle.loops.specs.Judged.{Checked, Fine, Missing, Looping, Large, Judged}
 use Rattle.intake.specs.declared.Loaded.{Loaded}
 
 -- The table of 01 that rows stand for.
@@ -36,33 +35,15 @@ Loads text a = Takes true text a
 abbrev pub Admits : List ℕ → Reading → Type 0
 Admits text a = Takes false text a
 
--- The struct that says so: with a refusal no row, with a table refusal and place 0.
-pub record Refuses (number place : ℕ) (r : Loaded) : Type 0 where
-  pub is_refusal : r.refusal ≡ number
-  pub is_place : r.place ≡ place
-  pub no_rows : r.table.rows ≡ 0
-
-pub record Accepts (rows : List Row) (r : Loaded) : Type 0 where
-  pub no_refusal : r.refusal ≡ 0
-  pub no_place : r.place ≡ 0
-  pub rows_are : rows_of r.table ≡ rows
-  pub count : r.table.rows ≡ length rows
-
-abbrev pub Says : Reading → Loaded → Type 0
-Says (rows_read rows) r = Accepts rows r
-Says (refused n p) r = Refuses n p r
+-- 01's numbers for what the code returns.
+abbrev pub reading_of : Result Loaded Refusal → Reading
+reading_of (Ok l) = rows_read (rows_of l.table)
+reading_of (Err r) = refused (number_of r) (place_of r)
 
 -- What `load` and `admit` promise for every text.
-pub record Answered (sized : Bool) (text : List ℕ) (r : Loaded) : Type 0 where
-  pub answer : Reading
-  pub takes : Takes sized text answer
-  pub says : Says answer r
-
--- And its second half, for a table.
-pub record Judges (sized : Bool) (t : Table) (r : Loaded) : Type 0 where
-  pub verdict : Checked
-  pub judged : Judged (table (rows_of t)) verdict
-  pub says : Says (numbered sized (rows_of t) verdict) r
+pub record Answered (sized : Bool) (text : List ℕ) (r : Result Loaded Refusal) : Type 0 where
+  pub takes : Takes sized text (reading_of r)
+  pub counted : IfOk r (λ l. l.table.rows.len ≡ length (rows_of l.table))
 
 -- A table that refusals 1, 3, 5 and 6 let pass: `Accepted` but for its size.
 pub record Admissible (rows : M.Table) : Type 0 where

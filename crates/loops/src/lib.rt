@@ -9,9 +9,11 @@ pub mod rules;
 ghost use Rattle.std.specs.Prelude.{◌≡◌, ◌≤◌, length};
 ghost use Rattle.meaning.specs.Table.{row_limit, InRange};
 ghost use Rattle.table.specs.Rows.{table_in, table_of};
+ghost use Rattle.loops.specs.Faults.{as_refusal};
 ghost use Rattle.loops.specs.Handed.{Handed};
 
 use pairs::Pairs;
+use table::refusal::Refusal;
 use table::{Row, Table};
 
 // A row is a place for refusals 5 and 6. A table that is merely too large to be searched still has an order of its rows.
@@ -20,6 +22,18 @@ pub enum Fault {
     Missing(usize),
     Looping(usize),
     Large([u8; Table::ROWS]),
+}
+
+impl From<Fault> for Refusal {
+    ghost from_gives = { λ fault refusal. refusal ≡ as_refusal fault };
+
+    fn from(fault: Fault) -> Refusal {
+        match fault {
+            Fault::Missing(i) => Refusal::Missing(i),
+            Fault::Looping(i) => Refusal::Looping(i),
+            Fault::Large(_) => Refusal::Large,
+        }
+    }
 }
 
 // The order of the rows comes with the verdict, since both are read off the same pairs.
