@@ -1,18 +1,18 @@
--- An accepted table is laid out by its bit places, an order of its rows and its look rows.
+-- An accepted table is laid out by its bit places and its look rows.
 use Prim.Native.Nat.{ℕ, zero, suc, ◌*◌, ◌^◌, ◌<◌, ◌≤◌}
 use native.Mathlib.Omega.{arith}
 use native.Mathlib.Decide.{dec_lt}
 use mathlib.Core.List.{List}
 use mathlib.Core.Path.{◌≡◌}
-use lib.ListN.{get_or, length}
+use lib.ListN.{length}
 use lib.Pow.{pow_mono}
 use Rattle.meaning.specs.Outcome.{Accepted}
 use Rattle.meaning.specs.Table.{Table, names, looks, size, size_limit}
 use Rattle.meaning.proofs.Codes.Names.{names_pos}
-use Rattle.table.specs.Rows.{row_of, table_in}
-use Rattle.table.specs.Written.{Exists}
+use Rattle.table.specs.Rows.{table_in}
+use Rattle.table.specs.declared.Row.{Row}
 use Rattle.counts.specs.Counts.{Places, LookRows}
-use Rattle.codes.specs.Layout.{Width, InOrder, Layout}
+use Rattle.codes.specs.Layout.{Width, Laid, Looking}
 
 -- a power is at most the product of it and a number that is not 0
 factor_le : (n w k : ℕ) → 0 < n → n * w ≤ k → w ≤ k
@@ -28,17 +28,12 @@ few_looks rows room = at (dec_lt 12 (looks rows))
         absurd (omega (arith, factor_le (names rows) (2 ^ looks rows) size_limit (names_pos rows) room))
     at (no h) = omega arith
 
-pub laid_out : {cells places order found : List ℕ} {m : ℕ} → Accepted (table_in cells) → m ≡ looks (table_in cells)
-    → ((i : ℕ) → i < length cells → Exists (row_of (get_or cells i 0)))
-    → length cells ≤ length places → Places (table_in cells) places
-    → InOrder cells order
-    → m ≤ length found → LookRows (table_in cells) found
-    → Layout cells places order found m
-laid_out {cells} a e x p places o f found =
-    let w = few_looks (table_in cells) a.room in
-    let width : Width cells _ = record { is_m = e; small = omega arith } in
-    record {
-      laid = record { width = width; range = a.in_range; enough = p; placed = places };
-      in_order = o;
-      looking = record { width = width; exist = x; enough = f; found = found };
-    }
+module _ {rows : List Row} {m : ℕ} (a : Accepted (table_in rows)) (e : m ≡ looks (table_in rows)) where
+  width : Width rows m
+  width = let w = few_looks (table_in rows) a.room in record { is_m = e; small = omega arith }
+
+  pub looking : {look : List ℕ} → m ≤ length look → LookRows (table_in rows) look → Looking rows look m
+  looking f found = record { width = width; enough = f; found = found }
+
+  pub laid : {places : List ℕ} → length rows ≤ length places → Places (table_in rows) places → Laid rows places m
+  laid p places = record { width = width; range = a.in_range; enough = p; placed = places }

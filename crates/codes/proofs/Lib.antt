@@ -1,10 +1,13 @@
-pub mod Parts
+pub mod Apart
 pub mod Settled
 pub mod Looking
-pub mod Directions
 pub mod Fits
 pub mod Takes
 pub mod LaidOut
 pub mod Passing
 pub mod Packing
 pub mod Seeing
+pub mod Telling
+pub mod Sure
+pub mod Asking
+pub mod Every

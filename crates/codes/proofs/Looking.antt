@@ -7,7 +7,7 @@ use mathlib.Core.Path.{◌≡◌, refl, sym, ap, ◌∙◌}
 use lib.ListN.{get_or, length, length-map}
 use Rattle.meaning.specs.Code.{HasBit}
 use Rattle.meaning.specs.Table.{row_at, look}
-use Rattle.table.specs.Rows.{row_of, meant, table_in}
+use Rattle.table.specs.Rows.{meant, table_in}
 use Rattle.table.specs.declared.Row.{Row}
 use Rattle.table.specs.declared.Row.TheVariants.{Yes, No, Is, Isnot, Any, All, Go, Stop}
 use Rattle.counts.specs.Counts.{LookRow}
@@ -15,7 +15,7 @@ use Rattle.counts.proofs.Laws.{row_at-table_in}
 use Rattle.table.specs.Decides.{Decides}
 use Rattle.codes.specs.Layout.{Looking}
 use Rattle.codes.specs.Parts.{bit_by}
-use Rattle.codes.proofs.Parts.{bit_decides}
+use Rattle.codes.proofs.Apart.{bit_decides}
 
 pub no_go : (r : Row) → ((d i : ℕ) → r ≡ Go d i → ⊥) → look (meant r) ≡ 0
 no_go Yes n = refl
@@ -27,18 +27,18 @@ no_go (All i j) n = refl
 no_go (Go d i) n = absurd (n d i refl)
 no_go (Stop d) n = refl
 
-module _ {cells found : List ℕ} {m : ℕ} (l : Looking cells found m) (j : ℕ) (h : j < m) where
-  pub look_at : LookRow (table_in cells) j (get_or found j 0)
+module _ {rows : List Row} {found : List ℕ} {m : ℕ} (l : Looking rows found m) (j : ℕ) (h : j < m) where
+  pub look_at : LookRow (table_in rows) j (get_or found j 0)
   look_at = let e = l.width.is_m in l.found.row j (omega arith)
 
-  pub look_inside : (j < length found) × (get_or found j 0 < length cells)
+  pub look_inside : (j < length found) × (get_or found j 0 < length rows)
   look_inside = let e = l.enough in (omega arith, simp length-map at look_at.there)
 
-  pub look_is : (r : Row) → r ≡ row_of (get_or cells (get_or found j 0) 0) → row_at (table_in cells) (get_or found j 0) ≡ meant r
-  look_is r e = row_at-table_in cells (get_or found j 0) look_inside.1 ∙ ap meant (sym e)
+  pub look_is : (r : Row) → get_or rows (get_or found j 0) No ≡ r → row_at (table_in rows) (get_or found j 0) ≡ meant r
+  look_is r e = row_at-table_in rows No (get_or found j 0) look_inside.1 ∙ ap meant e
 
-  pub look_not : (r : Row) → r ≡ row_of (get_or cells (get_or found j 0) 0) → look (meant r) ≡ 0 → ⊥
+  pub look_not : (r : Row) → get_or rows (get_or found j 0) No ≡ r → look (meant r) ≡ 0 → ⊥
   look_not r e z = omega (arith, look_at.looking, ap look (look_is r e))
 
-  pub look_bit : (code : ℕ) {b : Bool} → b ≡ bit_by code j → Decides b (HasBit (table_in cells) code (get_or found j 0))
-  look_bit code e = bit_decides (table_in cells) code (get_or found j 0) j (sym look_at.place) e
+  pub look_bit : (code : ℕ) {b : Bool} → b ≡ bit_by code j → Decides b (HasBit (table_in rows) code (get_or found j 0))
+  look_bit code e = bit_decides (table_in rows) code (get_or found j 0) j (sym look_at.place) e

@@ -3,12 +3,18 @@ use Prim.Native.Nat.{ℕ, zero, suc, ◌+◌, ◌-◌, ◌*◌, ◌^◌, ◌/◌
 use native.Mathlib.Omega.{arith}
 use native.Mathlib.Nat.{div-div-eq-div-mul, pow-succ'}
 use mathlib.Core.Bool.{Bool, true, false, cond}
-use mathlib.Core.Path.{◌≡◌, sym, ap, ◌∙◌}
+use mathlib.Core.Path.{◌≡◌, refl, sym, ap, ◌∙◌}
 use borrow.Author.Tests.{eq-eqb, ne_eqb}
 use lib.Dec.{eqb}
 use lib.Pow.{pow_mono}
+use Rattle.std.specs.Int.{from_bool}
 use Rattle.codes.specs.Parts.{bit_by}
 use Rattle.codes.specs.Sights.{packed}
+
+-- a truth as a number
+pub byte_is : (b : Bool) → from_bool b ≡ cond b 1 0
+byte_is true = refl
+byte_is false = refl
 
 pub bit_most : (b : Bool) → cond b 1 0 ≤ 1
 bit_most true = omega arith

@@ -1,5 +1,5 @@
 -- `Takes` and `Proper` by the look rows alone, each of which has its bit.
-use Prim.Native.Nat.{ℕ, ◌+◌, ◌<◌, ◌≤◌}
+use Prim.Native.Nat.{ℕ, ◌<◌}
 use native.Mathlib.Omega.{arith}
 use mathlib.Core.Bool.{Bool}
 use mathlib.Core.List.{List}
@@ -8,39 +8,35 @@ use mathlib.Core.Path.{◌≡◌, subst}
 use lib.ListN.{get_or, take}
 use Rattle.meaning.specs.Code.{HasFlag, Proper, Takes}
 use Rattle.meaning.specs.Table.{Side, first, next, Dir, down, up, row_at, go_row, looks}
-use Rattle.table.specs.Rows.{dir_of, table_in}
+use Rattle.table.specs.Rows.{table_in}
+use Rattle.table.specs.declared.Row.{Row}
 use Rattle.table.specs.Decides.{Decides}
-use Rattle.codes.specs.Fits.{side_of, FitsRow, Flagged}
+use Rattle.codes.specs.Fits.{FitsRow, Flagged}
 use Rattle.codes.specs.Layout.{Looking}
 use Rattle.counts.proofs.Looks.{go_look, look-below, look_row_lem, look_same}
 use Rattle.codes.specs.Parts.{flag_by}
-use Rattle.codes.proofs.Directions.{dir_down, dir_up}
 use Rattle.codes.proofs.Looking.{look_at}
-use Rattle.codes.proofs.Parts.{flag_decides}
+use Rattle.codes.proofs.Apart.{flag_decides}
 
-module _ {cells found : List ℕ} {m : ℕ} (l : Looking cells found m) where
+module _ {rows : List Row} {found : List ℕ} {m : ℕ} (l : Looking rows found m) where
   -- what holds of the row of each bit holds of each `go` row
-  pub each_look : (P : ℕ → Type 0) → ((j : ℕ) → j < m → P (get_or found j 0)) → (i k : ℕ) (d : Dir) → row_at (table_in cells) i ≡ go_row d k → P i
+  pub each_look : (P : ℕ → Type 0) → ((j : ℕ) → j < m → P (get_or found j 0)) → (i k : ℕ) (d : Dir) → row_at (table_in rows) i ≡ go_row d k → P i
   each_look P h i k d e =
-      let one = go_look (table_in cells) i e in
-      let j = looks (take i (table_in cells)) in
+      let one = go_look (table_in rows) i e in
+      let j = looks (take i (table_in rows)) in
       let w = l.width.is_m in
-      let small : j < m = omega (arith, look-below (table_in cells) i one) in
-      subst P (look_same (table_in cells) j (get_or found j 0) i (look_at l j small) (look_row_lem (table_in cells) i one)) (h j small)
+      let small : j < m = omega (arith, look-below (table_in rows) i one) in
+      subst P (look_same (table_in rows) j (get_or found j 0) i (look_at l j small) (look_row_lem (table_in rows) i one)) (h j small)
 
-  -- the flags of direction d, 1 or 2, and of its converse
-  pub flag_forth : (d t : ℕ) → (1 ≤ d) × (d ≤ 2) → {b : Bool} → b ≡ flag_by m t (dir_of d) → Decides b (HasFlag (table_in cells) t (down (side_of d)))
-  flag_forth d t h e = rw (dir_down d h) at (flag_decides (table_in cells) t m l.width.is_m (dir_of d) e)
+  pub flag_is : (code : ℕ) (d : Dir) {b : Bool} → b ≡ flag_by m code d → Decides b (HasFlag (table_in rows) code d)
+  flag_is code d e = flag_decides (table_in rows) code m l.width.is_m d e
 
-  pub flag_back : (d u : ℕ) → (1 ≤ d) × (d ≤ 2) → {b : Bool} → b ≡ flag_by m u (dir_of (d + 2)) → Decides b (HasFlag (table_in cells) u (up (side_of d)))
-  flag_back d u h e = rw (dir_up d h) at (flag_decides (table_in cells) u m l.width.is_m (dir_of (d + 2)) e)
-
-  pub takes_rows : (s : Side) (t u : ℕ) → Takes (table_in cells) s t u
-      ↔ (HasFlag (table_in cells) t (down s) × HasFlag (table_in cells) u (up s) × ((j : ℕ) → j < m → FitsRow (table_in cells) s t u (get_or found j 0)))
+  pub takes_rows : (s : Side) (t u : ℕ) → Takes (table_in rows) s t u
+      ↔ (HasFlag (table_in rows) t (down s) × HasFlag (table_in rows) u (up s) × ((j : ℕ) → j < m → FitsRow (table_in rows) s t u (get_or found j 0)))
   takes_rows s t u = (
     λ h. (h.flag_down, h.flag_up, λ j z. record { forth = λ k e. h.forth (get_or found j 0) k e; back = λ k e. h.back (get_or found j 0) k e }),
     λ h.
-        let fits = each_look (FitsRow (table_in cells) s t u) h.2 in
+        let fits = each_look (FitsRow (table_in rows) s t u) h.2 in
         record {
           flag_down = h.0;
           flag_up = h.1;
@@ -49,9 +45,9 @@ module _ {cells found : List ℕ} {m : ℕ} (l : Looking cells found m) where
         },
   )
 
-  pub proper_rows : (c : ℕ) → Proper (table_in cells) c
-      ↔ ((HasFlag (table_in cells) c (up first) → HasFlag (table_in cells) c (up next) → ⊥) × ((j : ℕ) → j < m → Flagged (table_in cells) c (get_or found j 0)))
+  pub proper_rows : (c : ℕ) → Proper (table_in rows) c
+      ↔ ((HasFlag (table_in rows) c (up first) → HasFlag (table_in rows) c (up next) → ⊥) × ((j : ℕ) → j < m → Flagged (table_in rows) c (get_or found j 0)))
   proper_rows c = (
     λ h. (h.one_parent, λ j z. h.flagged (get_or found j 0)),
-    λ h. record { one_parent = h.0; flagged = λ i k d e. each_look (Flagged (table_in cells) c) h.1 i k d e k d e },
+    λ h. record { one_parent = h.0; flagged = λ i k d e. each_look (Flagged (table_in rows) c) h.1 i k d e k d e },
   )

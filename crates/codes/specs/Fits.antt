@@ -1,11 +1,7 @@
 -- What a single look row asks of a code and of its neighbour: 01's `proper` and `takes`, row by row.
-use Rattle.std.specs.Prelude.{ℕ, cond, ◌↔◌, ◌≡◌, eqb}
+use Rattle.std.specs.Prelude.{ℕ, ◌↔◌, ◌≡◌}
 use Rattle.meaning.specs.Code.{HasFlag, HasBit, TrueIn}
-use Rattle.meaning.specs.Table.{Side, first, next, Dir, down, up, Table, row_at, go_row}
-
--- The side of direction 1 or 2.
-abbrev pub side_of : ℕ → Side
-side_of d = cond (eqb d 1) first next
+use Rattle.meaning.specs.Table.{Side, Dir, down, up, Table, row_at, go_row}
 
 -- Row i lets code t take u at the side s: its bit in the code that it looks from is the truth in the other of the row it names.
 pub record FitsRow (rows : Table) (s : Side) (t u i : ℕ) : Type 0 where

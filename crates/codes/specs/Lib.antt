@@ -1,6 +1,5 @@
 pub mod Parts
 pub mod Layout
-pub mod Settles
 pub mod Truths
 pub mod Sights
 pub mod Fits

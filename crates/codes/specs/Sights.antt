@@ -4,7 +4,7 @@ use Rattle.std.specs.Prelude.{ℕ, zero, suc, ◌+◌, ◌*◌, ◌<◌, Bool, c
 use Rattle.meaning.specs.Code.{TrueIn}
 use Rattle.meaning.specs.Table.{Dir, Table, row_at, asked, go_row}
 use Rattle.table.specs.Decides.{Decides}
-use Rattle.table.specs.Rows.{row_of, table_in}
+use Rattle.table.specs.Rows.{table_in}
 use Rattle.table.specs.declared.Row.{Row}
 use Rattle.table.specs.declared.Row.TheVariants.{Yes, No, Is, Isnot, Any, All, Go, Stop}
 use Rattle.codes.specs.Parts.{bit_by}
@@ -35,13 +35,13 @@ goal (Go d i) = i
 goal (Stop d) = 0
 
 -- The row whose truth is bit j of a sight.
-abbrev pub subject : List ℕ → List ℕ → ℕ → ℕ → ℕ
-subject cells look m j = cond (ltb j m) (goal (row_of (get_or cells (get_or look j 0) 0))) (asked (table_in cells))
+abbrev pub subject : List Row → List ℕ → ℕ → ℕ → ℕ
+subject rows look m j = cond (ltb j m) (goal (get_or rows (get_or look j 0) No)) (asked (table_in rows))
 
 -- A number of k bits, which a test gives from j on.
 unfoldable pub packed : (ℕ → Bool) → ℕ → ℕ → ℕ
 packed test zero j = 0
 packed test (suc k) j = packed test k (suc j) * 2 + cond (test j) 1 0
 
-abbrev pub sight_by : List ℕ → List ℕ → ℕ → List ℕ → ℕ
-sight_by cells look m truths = packed (λ (j : ℕ). true_by truths (subject cells look m j)) (suc m) 0
+abbrev pub sight_by : List Row → List ℕ → ℕ → List Bool → ℕ
+sight_by rows look m truths = packed (λ (j : ℕ). true_by truths (subject rows look m j)) (suc m) 0

@@ -2,11 +2,13 @@
 use Prim.Native.Nat.{ℕ, zero, suc, ◌<◌, ◌≤◌}
 use native.Mathlib.Omega.{arith}
 use mathlib.Core.Path.{◌≡◌, refl, ap}
+use mathlib.Core.List.{List}
 use lib.ListN.{length}
 use Rattle.meaning.specs.Loop.{LoopFree}
 use Rattle.meaning.specs.Table.{Table, Row, row_at, yes_row, no_row, is_row, isnot_row, any_row, all_row, go_row, stop_row, Refers, any_left, any_right, all_left, all_right, InRange}
 use Rattle.meaning.proofs.Search.Rank.{flat, shallow}
 use Rattle.meaning.proofs.Solution.Finite.{Shallow}
+use Rattle.counts.specs.Order.{Ordered}
 use Rattle.counts.specs.Rank.{deeper, depth, rank_of}
 use Rattle.counts.proofs.Laws.{row_there}
 
@@ -71,10 +73,28 @@ module _ (rows : Table) where
   unfolding rank_of
   rank_most i = depth_most (length rows) i
 
+  -- where each depth is less than there are rows, it falls along each reference
+  falls : ((i : ℕ) → i < length rows → depth rows (length rows) i < length rows) → (i j : ℕ) → Refers rows i j → rank_of rows j < rank_of rows i
+  unfolding rank_of depth
+  falls few i j r =
+      let a : depth rows (length rows) j < depth rows (suc (length rows)) i = above (depth rows (length rows)) i r in
+      omega (arith, depth_stays (length rows) i (few i (refers_there i r)))
+
   -- the falling number of what recurs through `any` and `all`
   pub rank_falls : InRange rows → LoopFree rows → (i j : ℕ) → Refers rows i j → rank_of rows j < rank_of rows i
-  unfolding rank_of depth
-  rank_falls range free i j r =
-      let s : depth rows (length rows) i < length rows = depth_shallow (length rows) (length rows) i (shallow range free i (refers_there i r)) in
-      let a : depth rows (length rows) j < depth rows (suc (length rows)) i = above (depth rows (length rows)) i r in
-      omega (arith, depth_stays (length rows) i s)
+  rank_falls range free = falls (λ i h. depth_shallow (length rows) (length rows) i (shallow range free i h))
+
+  -- the same of a table whose rows have an order
+  depth_placed : InRange rows → {order : List ℕ} (o : Ordered rows order) (most i : ℕ) → i < length rows → depth rows most i ≤ o.place i
+  unfolding depth
+  depth_placed range o zero i h = omega arith
+  depth_placed range o (suc most) i h =
+      under (depth rows most) (o.place i) (row_at rows i)
+      (λ j l e. (step (λ k. depth_placed range o most k) j (any_left e), step (λ k. depth_placed range o most k) l (any_right e)))
+      (λ j l e. (step (λ k. depth_placed range o most k) j (all_left e), step (λ k. depth_placed range o most k) l (all_right e)))
+    where
+      step : ((k : ℕ) → k < length rows → depth rows most k ≤ o.place k) → (j : ℕ) → Refers rows i j → depth rows most j < o.place i
+      step f j r = omega (arith, f j (range.referred r), o.before i j r)
+
+  pub rank_falls_in : InRange rows → {order : List ℕ} → Ordered rows order → (i j : ℕ) → Refers rows i j → rank_of rows j < rank_of rows i
+  rank_falls_in range o = falls (λ i h. omega (arith, depth_placed range o (length rows) i h, o.there i h))

@@ -2,7 +2,7 @@
 use Rattle.std.proofs.Common.{◌≡◌, length}
 use Rattle.table.specs.Rows.{table_in}
 use Rattle.codes.proofs.Passing.{Passed}
-use Rattle.codes.proofs.truths.truths_in.Given as goal
+use Rattle.codes.proofs.layout.Layout.truths_in.Given as goal
 
 abbrev pub invariant-loop-k : goal.invariant-loop-k
-invariant-loop-k l = (length l.truths ≡ 48) × Passed (table_in l.cells) l.order l.code l.k l.truths
+invariant-loop-k l = (length l.truths ≡ 48) × Passed (table_in l.self.looks.rows.now) l.self.order.now l.code l.k l.truths

@@ -1,0 +1,96 @@
+// The truths of a code's rows, worked out in one pass: the order of the rows is fixed beforehand, so that what an `any` or `all` row names is
+// there when the row has its turn. A handheld has too little stack to follow the references down a long table.
+ghost use Rattle.std.specs.Prelude.{◌≡◌, ◌<◌, length};
+ghost use Rattle.table.specs.Rows.{table_in};
+ghost use Rattle.codes.specs.Layout.{Laid, InOrder};
+ghost use Rattle.codes.specs.Sights.{Sees, subject, sight_by};
+ghost use Rattle.codes.specs.Truths.{true_by, Follows, AllWorked};
+
+use crate::looks::Looks;
+use crate::parts::has_bit;
+use table::direction::Direction;
+use table::{Row, Table};
+
+// Row 0 is the question.
+const ASKED: usize = 0;
+
+// A table's look rows, the bit place of each row, and the rows in the order of one pass.
+#[derive(Clone, Copy)]
+pub struct Layout<'a> {
+    pub looks: Looks<'a>,
+    pub places: &'a [u8],
+    pub order: &'a [u8],
+    pub ghost laid: { Laid looks.rows.now places.now looks.parts.m },
+    pub ghost in_order: { ∥ InOrder looks.rows.now order.now ∥₁ },
+}
+
+impl<'a> Layout<'a> {
+    // Whether a row is true, by the truths of the rows that it names.
+    #[tactic(auto, using(crate::proofs::Telling::place_small, crate::proofs::Telling::tells_yes, crate::proofs::Telling::tells_no, crate::proofs::Telling::tells_is, crate::proofs::Telling::tells_isnot, crate::proofs::Telling::tells_any_first, crate::proofs::Telling::tells_any_second, crate::proofs::Telling::tells_all_first, crate::proofs::Telling::tells_all_second, crate::proofs::Telling::tells_go, crate::proofs::Telling::tells_stop))]
+    fn truth(&self, truths: &[bool], row: usize, code: usize) -> bool
+        requires { row < length self.now.looks.rows.now }
+        ensures { Follows (table_in self.now.looks.rows.now) code truths.now row result }
+    {
+        let parts = self.looks.parts;
+        match self.looks.rows[row] {
+            Row::Yes => true,
+            Row::No => false,
+            Row::Is(n) => parts.name_of(code) == usize::from(n),
+            Row::Isnot(n) => parts.name_of(code) != usize::from(n),
+            Row::Any(i, j) => is_true(truths, usize::from(i)) || is_true(truths, usize::from(j)),
+            Row::All(i, j) => is_true(truths, usize::from(i)) && is_true(truths, usize::from(j)),
+            Row::Go(_, _) => has_bit(code, usize::from(self.places[row])),
+            Row::Stop(d) => !parts.has_flag(code, Direction::of(d)),
+        }
+    }
+
+    fn truths_in(&self, code: usize) -> [bool; Table::ROWS]
+        ensures { AllWorked (table_in self.now.looks.rows.now) code result }
+    {
+        let mut truths = [false; Table::ROWS];
+        for k in 0..self.looks.rows.len() {
+            let row = usize::from(self.order[k]);
+            truths[row] = self.truth(&truths, row, code);
+        }
+        truths
+    }
+
+    // The row whose truth is bit j of a sight: the one that the look row of bit j names, and above them the question.
+    fn subject_of(&self, j: usize) -> usize
+        ensures { result ≡ subject self.now.looks.rows.now self.now.looks.look.now self.now.looks.parts.m j }
+    {
+        if j < self.looks.parts.m {
+            if let Row::Go(_, i) = self.looks.look_row(j) {
+                return usize::from(i);
+            }
+        }
+        ASKED
+    }
+
+    fn pack(&self, truths: &[bool]) -> usize
+        ensures { result ≡ sight_by self.now.looks.rows.now self.now.looks.look.now self.now.looks.parts.m truths.now }
+    {
+        let mut sight: usize = 0;
+        let mut j = self.looks.parts.m + 1;
+        while 0 < j {
+            j -= 1;
+            sight = sight * 2 + usize::from(is_true(truths, self.subject_of(j)));
+        }
+        sight
+    }
+
+    // What is asked of a code's truths, in one number, so that it is worked out once and kept: bit j is the truth of the row that the look row
+    // of bit j names, and bit m that of the question.
+    pub fn sight_of(&self, code: usize) -> usize
+        ensures { Sees (table_in self.now.looks.rows.now) self.now.looks.look.now self.now.looks.parts.m code result × (result < 65536) }
+    {
+        self.pack(&self.truths_in(code))
+    }
+}
+
+// A row that is not there is true nowhere.
+fn is_true(truths: &[bool], i: usize) -> bool
+    ensures { result ≡ true_by truths.now i }
+{
+    truths.get(i).copied().unwrap_or(false)
+}

@@ -1,0 +1,39 @@
+// Sights that are kept, so that they are not worked out again.
+ghost use Rattle.std.specs.Prelude.{◌≡◌, ◌<◌};
+ghost use Rattle.meaning.specs.Code.{Good};
+ghost use Rattle.table.specs.Decides.{Decides};
+ghost use Rattle.table.specs.Rows.{table_in};
+ghost use Rattle.codes.specs.Sights.{Sees, Sights};
+
+use crate::layout::Layout;
+use crate::parts::has_bit;
+
+// What stands for a code of which nothing is kept: a sight has 13 bits at the most. An `Option<u16>` for each code would take twice the memory,
+// of which a handheld has too little.
+pub const UNSEEN: u16 = 65535;
+
+#[derive(Clone, Copy)]
+pub struct Seen<'a> {
+    pub layout: Layout<'a>,
+    pub sights: &'a [u16],
+    pub ghost right: { ∥ Sights (table_in layout.looks.rows.now) layout.looks.look.now layout.looks.parts.m sights.now ∥₁ },
+}
+
+impl<'a> Seen<'a> {
+    // What is kept of a code, or else worked out.
+    pub fn sight(&self, code: usize) -> usize
+        ensures { Sees (table_in self.now.layout.looks.rows.now) self.now.layout.looks.look.now self.now.layout.looks.parts.m code result }
+    {
+        match self.sights.get(code).copied() {
+            Some(kept) if kept != UNSEEN => usize::from(kept),
+            _ => self.layout.sight_of(code),
+        }
+    }
+
+    pub fn good(&self, code: usize) -> bool
+        ensures { Decides result (Good (table_in self.now.layout.looks.rows.now) code) }
+    {
+        let parts = self.layout.looks.parts;
+        !parts.has_parent(code) && has_bit(self.sight(code), parts.m)
+    }
+}
