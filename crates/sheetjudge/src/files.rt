@@ -2,6 +2,9 @@
 use std::rt::{Env, Files};
 use std::{fs, io};
 
+// The longest name that is taken.
+pub(crate) const NAME: usize = 4096;
+
 // Why an argument names no file that can be read.
 #[derive(Clone, Copy)]
 pub(crate) enum Fault<'a> {
@@ -10,15 +13,23 @@ pub(crate) enum Fault<'a> {
     NotOpened(&'a str, io::Error),
 }
 
-// Opens the file that an argument names. The name is read into lent memory, so that a fault can say it.
-pub(crate) fn open<'a, R: Env + Files>(
+// The table and the sheet, in this order. The names are read into lent memory, so that a fault can say which it is.
+pub(crate) fn open_both<'a, R: Env + Files>(
+    rt: &R,
+    table: &'a mut [u8; NAME],
+    sheet: &'a mut [u8; NAME],
+) -> Result<(R::File, R::File), Fault<'a>> {
+    Ok((open(rt, 1, table)?, open(rt, 2, sheet)?))
+}
+
+fn open<'a, R: Env + Files>(
     rt: &R,
     i: usize,
-    path: &'a mut [u8; 4096],
+    name: &'a mut [u8; NAME],
 ) -> Result<R::File, Fault<'a>> {
-    let n = rt.arg(i, path).map_err(|_| Fault::NameTooLong)?;
-    let name = str::from_utf8(&path[..n]).map_err(|_| Fault::NameNotUtf8)?;
-    fs::open(rt, name).map_err(|error| Fault::NotOpened(name, error))
+    let n = rt.arg(i, name).map_err(|_| Fault::NameTooLong)?;
+    let path = str::from_utf8(&name[..n]).map_err(|_| Fault::NameNotUtf8)?;
+    fs::open(rt, path).map_err(|error| Fault::NotOpened(path, error))
 }
 
 impl Fault<'_> {

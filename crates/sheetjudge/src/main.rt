@@ -3,7 +3,7 @@
 // Says where a rule holds on a sheet: `sheetjudge TABLE SHEET`, two file names.
 mod files;
 
-use files::open;
+use files::{NAME, open_both};
 use sheets::Sheet;
 use std::env::FillError;
 use std::io;
@@ -33,15 +33,9 @@ fn main(rt: HostRuntime) -> io::Result<()> {
     if !is_given_two(&rt) {
         return eprintln!(rt; "usage: sheetjudge TABLE SHEET");
     }
-    let mut path = [0u8; 4096];
-    let table = match open(&rt, 1, &mut path) {
-        Ok(file) => file,
-        Err(fault) => return fault.say(&rt),
-    };
-    let mut path = [0u8; 4096];
-    let sheet = match open(&rt, 2, &mut path) {
-        Ok(file) => file,
-        Err(fault) => return fault.say(&rt),
-    };
-    judge_files(&rt, table, sheet)
+    let (mut first, mut second) = ([0u8; NAME], [0u8; NAME]);
+    match open_both(&rt, &mut first, &mut second) {
+        Ok((table, sheet)) => judge_files(&rt, table, sheet),
+        Err(fault) => fault.say(&rt),
+    }
 }

@@ -7,6 +7,7 @@ use table::Table;
 fn main(rt: HostRuntime) -> io::Result<()> {
     let mut text = [0u8; Table::TEXT];
     let n = show::read_full(&mut rt.stdin(), &mut text)?;
+    // Arrays of 4096 places each: the specification names this form.
     let mut round = [0u16; 4096];
     let mut first = [0u16; 4096];
     let mut next = [0u16; 4096];

@@ -13,7 +13,7 @@ use std::io::Write;
 use std::num::NonZeroUsize;
 use verdict::{Refused, Verdict};
 
-// Solves the text in the memory that is lent, and prints the answer.
+// Solves the text in the memory that is lent, four slices as C lends them, and prints the answer.
 pub fn show<W: Write>(
     out: &mut W,
     text: &[u8],

@@ -1,9 +1,12 @@
 // The listing of a tree that was found: a line for each of its codes.
+ghost use Rattle.std.specs.Prelude.{Some};
+ghost use Rattle.show.specs.Printed.{line_text, neighbour_text};
+
 use std::io::Write;
 use std::num::NonZeroUsize;
 use std::{fmt, io};
 
-// The lent memory once a tree is found, and how many codes a name has.
+// The lent memory once a tree is found, and how many codes a name has. Four slices and not one of lines, since C lends four.
 #[derive(Clone, Copy)]
 pub(crate) struct Listing<'a> {
     pub(crate) round: &'a [u16],
@@ -26,17 +29,16 @@ impl Listing<'_> {
     fn write_round<W: Write>(&self, out: &mut W, round: u32) -> io::Result<()> {
         let entered = self.round.iter().zip(self.used);
         let beside = self.first.iter().zip(self.next);
-        let codes = entered.zip(beside).enumerate();
-        for (code, (_, (first, next))) in codes.filter(|(_, ((k, used), _))| **used != 0
-            && u32::from(**k) == round)
-        {
-            let line = Line {
-                code,
-                name: code / self.width,
-                first: Neighbour(*first),
-                next: Neighbour(*next),
-            };
-            writeln!(out, "{line}")?;
+        for (code, ((k, used), (first, next))) in entered.zip(beside).enumerate() {
+            if *used != 0 && u32::from(*k) == round {
+                let line = Line {
+                    code,
+                    name: code / self.width,
+                    first: Neighbour(*first),
+                    next: Neighbour(*next),
+                };
+                writeln!(out, "{line}")?;
+            }
         }
         Ok(())
     }
@@ -52,6 +54,8 @@ struct Line {
 }
 
 impl fmt::Display for Line {
+    ghost output = { λ l. Some (line_text l.code l.name l.first.0 l.next.0) };
+
     fn fmt<W: fmt::Write>(&self, f: &mut fmt::Formatter<W>) -> fmt::Result {
         let Line {
             code,
@@ -68,6 +72,8 @@ impl fmt::Display for Line {
 struct Neighbour(u16);
 
 impl fmt::Display for Neighbour {
+    ghost output = { λ n. Some (neighbour_text n.0) };
+
     fn fmt<W: fmt::Write>(&self, f: &mut fmt::Formatter<W>) -> fmt::Result {
         match self.0 {
             rounds::NONE => f.write_str("-"),

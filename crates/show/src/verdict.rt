@@ -1,4 +1,7 @@
 // The two answers by cases, of the numbers that cross to another language.
+ghost use Rattle.std.specs.Prelude.{Some};
+ghost use Rattle.show.specs.Printed.{refusal_text};
+
 use judge::Judged;
 use solver::Answer;
 use std::fmt;
@@ -53,6 +56,8 @@ pub(crate) fn written(judged: Judged) -> Result<usize, Refused> {
 }
 
 impl fmt::Display for Refused {
+    ghost output = { λ r. Some (refusal_text r.number r.place) };
+
     fn fmt<W: fmt::Write>(&self, f: &mut fmt::Formatter<W>) -> fmt::Result {
         let Refused { number, place } = *self;
         write!(f, "{number}\t{place}")
