@@ -1,9 +1,9 @@
 -- From the rounds to the answer: the cleared slices are those before round 1, and what the rounds and the marks leave is the outcome.
-use Prim.Native.Nat.{ℕ, ◌<◌, ◌≤◌}
+use Prim.Native.Nat.{ℕ, ◌<◌}
 use native.Mathlib.Omega.{arith}
 use mathlib.Core.List.{List}
 use mathlib.Core.Path.{◌≡◌, refl, sym, subst}
-use lib.ListN.{get_or, length}
+use lib.ListN.{get_or}
 use Rattle.meaning.specs.Code.{codes}
 use Rattle.meaning.specs.Outcome.{recorded, absent, Accepted, Searched, is_sat, is_unsat}
 use Rattle.meaning.specs.Table.{Side, first, next, Table}
@@ -11,13 +11,14 @@ use Rattle.meaning.proofs.Outcome.Conclude.{conclude_sat, conclude_unsat}
 use Rattle.meaning.proofs.Sides.{sides}
 use Rattle.rounds.specs.Ended.{Before, EndsAs, Ended}
 use Rattle.rounds.specs.Found.{Answered}
-use Rattle.rounds.specs.Kept.{lent, Room, Kept, KeptAll, Cleared}
+use Rattle.rounds.specs.Kept.{lent, Kept, KeptAll, Cleared}
+use Rattle.rounds.specs.Room.{Room}
 use Rattle.rounds.specs.Round.{running}
 use Rattle.rounds.specs.Used.{Linked, Used}
 use Rattle.rounds.specs.declared.Found.{Found}
 use Rattle.rounds.specs.declared.Found.TheVariants.{Sat, Unsat}
 use Rattle.rounds.proofs.Marks.{used_same, linked}
-use Rattle.rounds.proofs.Places.{cleared-below, kept_cleared, kept_same, all_kept, all_then, room_kept}
+use Rattle.rounds.proofs.Places.{cleared-below, kept_cleared, kept_same, all_kept, all_then}
 use Rattle.rounds.proofs.Whole.{start}
 
 -- first and next do not depend on used
@@ -38,16 +39,13 @@ module _ {c : ℕ} {r f n u r₁ f₁ n₁ u₁ : List ℕ} (d : Cleared c (lent
   pub none_used : (i : ℕ) → i < c → get_or u₁ i 0 ≡ 0
   none_used i l = rw d.no_used (cleared-below 0 c u i l)
 
-  module _ (room : Room c (running r f n)) (l : c ≤ length u) where
+  module _ (room : Room c r f n u) where
     all_cleared : KeptAll c (lent r f n u) (lent r₁ f₁ n₁ u₁)
     all_cleared = all_kept
         (kept_cleared 0 d.no_round room.room_round)
         (kept_cleared absent d.no_first room.room_first)
         (kept_cleared absent d.no_next room.room_next)
-        (kept_cleared 0 d.no_used l)
-
-    pub room_cleared : Room c (running r₁ f₁ n₁)
-    room_cleared = room_kept room (all_kept all_cleared.kept_round all_cleared.kept_first all_cleared.kept_next kept_same)
+        (kept_cleared 0 d.no_used room.room_used)
 
     -- what the rounds and the marks leave
     module _ {rows : Table} (a : Accepted rows) (count : c ≡ codes rows) {found : Found} {r₂ f₂ n₂ : List ℕ} (e : Ended rows found (running r₁ f₁ n₁) (running r₂ f₂ n₂)) where
@@ -60,10 +58,9 @@ module _ {c : ℕ} {r f n u r₁ f₁ n₁ u₁ : List ℕ} (d : Cleared c (lent
       ended_as v i = subst (λ (z : Found). EndsAs rows z (running r₂ f₂ n₂)) i e.ends
 
       -- what the marks ask for
-      pub marks_from : {h top : ℕ} → found ≡ Sat h top → ((Linked c (running r₂ f₂ n₂) × Room c (running r₂ f₂ n₂) × (c ≤ length u₁))
-          × ((top < c) × (get_or r₂ top 0 ≡ h) × (0 < h) × ((t : ℕ) → t < c → get_or u₁ t 0 ≡ 0)))
+      pub marks_from : {h top : ℕ} → found ≡ Sat h top → (Linked c (running r₂ f₂ n₂) × ((top < c) × (get_or r₂ top 0 ≡ h) × (0 < h) × ((t : ℕ) → t < c → get_or u₁ t 0 ≡ 0)))
       marks_from {h} {top} i = let w = ended_as (Sat h top) i in
-          ((rw count (linked w.searched), room_kept room_cleared e.kept, rw all_cleared.kept_used.same_length l), (rw count w.is_code, w.in_round, w.counted, none_used))
+          (rw count (linked w.searched), (rw count w.is_code, w.in_round, w.counted, none_used))
 
       pub answers_sat : {h top : ℕ} {u₂ : List ℕ} → found ≡ Sat h top → Used c (running r₂ f₂ n₂) top u₁ u₂ → Answered rows (Sat h top) (lent r f n u) (lent r₂ f₂ n₂ u₂)
       answers_sat {h} {top} {u₂} i m = let w = ended_as (Sat h top) i in record {

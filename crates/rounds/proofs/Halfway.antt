@@ -8,9 +8,8 @@ use mathlib.Core.Path.{◌≡◌, refl, sym, ◌∙◌}
 use lib.ListN.{get_or}
 use Rattle.meaning.specs.Code.{codes, HasFlag, Proper, Takes}
 use Rattle.meaning.specs.Marked.{Smallest, Within}
-use Rattle.meaning.specs.Outcome.{Slices, recorded, absent, Accepted, RoundIs, entered, not_entered, Earlier, NeighbourIs, smallest, no_child, left_out}
+use Rattle.meaning.specs.Outcome.{Slices, recorded, Accepted, RoundIs, entered, not_entered, Earlier, NeighbourIs, smallest, no_child, left_out}
 use Rattle.meaning.specs.Table.{Side, down, Table}
-use Rattle.meaning.proofs.Codes.Absent.{never}
 use Rattle.meaning.proofs.Rounds.Entry.{entry}
 use Rattle.meaning.proofs.Rounds.Places.{round_unique, was_entered}
 use Rattle.meaning.proofs.Rounds.Smallest.{smallest_from, smallest_within, smallest_code, smallest_pos}
@@ -55,10 +54,6 @@ module _ {rows : Table} (a : Accepted rows) {k t : ℕ} {x : Slices} (h : Halfwa
       let q : y.0 < k = omega (arith, y.1, h.running) in
       let e = round_of l y.2 q in
       (l, omega (arith, smallest_pos y.2), omega arith)
-
-  -- 65,535 is never entered
-  pub not_absent : (u : ℕ) → u < codes rows → 0 < get_or x.round u 0 → u ≢ absent
-  not_absent u l p = never rows a.room u l (smallest_code (entered_there u l p).0).1
 
   -- a visit that enters nothing
   module _ (l : t < codes rows) where

@@ -1,3 +1,4 @@
+pub mod Filled
 pub mod Places
 pub mod Seen
 pub mod Neighbours

@@ -3,27 +3,11 @@ use Prim.Native.Nat.{ℕ, ◌+◌, ◌-◌, ◌<◌, ◌≤◌}
 use native.Mathlib.Omega.{arith}
 use mathlib.Core.List.{List}
 use mathlib.Core.Path.{◌≡◌, refl, ap, ◌∙◌}
-use borrow.Author.Fill.{fill_more}
 use lib.ListN.{get_or, length, set, replicate, drop, length-append, length-replicate, length-drop, length-set, get_or-replicate, get_or-append}
 use lib.Seq.{get_or-append-add, get_or-drop, get_or-set_other}
 use Rattle.meaning.specs.Outcome.{Slices}
-use Rattle.rounds.specs.Kept.{cleared, lent, Kept, KeptAll, Room}
-
--- i places are cleared so far
-pub record Clearing (v c i : ℕ) (old new : List ℕ) : Type 0 where
-  pub here : i ≤ c
-  pub same_length : length new ≡ length old
-  pub so_far : new ≡ cleared v i old
-
-module _ {v c : ℕ} {old : List ℕ} where
-  pub clear_none : Clearing v c 0 old old
-  clear_none = record { here = omega arith; same_length = refl; so_far = refl }
-
-  pub clear_more : {i : ℕ} {new : List ℕ} → c ≤ length old → i < c → Clearing v c i old new → Clearing v c (i + 1) old (set new i v)
-  clear_more {i} l h k = record { here = omega arith; same_length = simp length-set k.same_length; so_far = rw k.so_far (fill_more i v old (omega arith)) }
-
-  pub clear_done : {i : ℕ} {new : List ℕ} → c ≤ i → Clearing v c i old new → new ≡ cleared v c old
-  clear_done {i} l k = let e : i ≡ c = omega (arith, k.here) in rw e at k.so_far
+use Rattle.rounds.specs.Kept.{cleared, lent, SameLent, UsedStays, Kept, KeptAll}
+use Rattle.rounds.specs.declared.lent.Lent.{Lent}
 
 module _ (v c : ℕ) (old : List ℕ) where
   pub cleared-below : (i : ℕ) → i < c → get_or (cleared v c old) i 0 ≡ v
@@ -65,9 +49,21 @@ module _ {c : ℕ} where
     kept_used = kept_then p.kept_used q.kept_used;
   }
 
-  pub room_kept : {n : ℕ} {x y : Slices} → Room n x → KeptAll c x y → Room n y
-  room_kept m k = record {
-    room_round = rw k.kept_round.same_length m.room_round;
-    room_first = rw k.kept_first.same_length m.room_first;
-    room_next = rw k.kept_next.same_length m.room_next;
-  }
+-- the same memory, and what the rounds leave of it alone
+pub still : {m : Lent} → SameLent m m
+still = record { same_round = refl; same_first = refl; same_next = refl; same_used = refl; same_codes = refl }
+
+pub same_then : {a b d : Lent} → SameLent a b → SameLent b d → SameLent a d
+same_then p q = record {
+  same_round = q.same_round ∙ p.same_round;
+  same_first = q.same_first ∙ p.same_first;
+  same_next = q.same_next ∙ p.same_next;
+  same_used = q.same_used ∙ p.same_used;
+  same_codes = q.same_codes ∙ p.same_codes;
+}
+
+pub untouched : {m : Lent} → UsedStays m m
+untouched = record { same = still; used_stays = refl }
+
+pub stays_then : {a b d : Lent} → UsedStays a b → UsedStays b d → UsedStays a d
+stays_then p q = record { same = same_then p.same q.same; used_stays = q.used_stays ∙ p.used_stays }

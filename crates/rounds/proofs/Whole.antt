@@ -5,6 +5,7 @@ use native.Mathlib.Decide.{ℕ_discrete, dec_lt}
 use mathlib.Core.Bool.{Bool, true, false}
 use mathlib.Core.Path.{◌≡◌}
 use lib.ListN.{get_or}
+use Rattle.std.specs.Prelude.{Some, None}
 use Rattle.meaning.specs.Code.{codes, Good}
 use Rattle.meaning.specs.Marked.{Smallest}
 use Rattle.meaning.specs.Outcome.{Slices, recorded, absent, Accepted, not_entered, left_out, Searched}
@@ -16,7 +17,6 @@ use Rattle.meaning.proofs.Rounds.Smallest.{smallest_code, smallest_pos}
 use Rattle.rounds.specs.Ended.{GoodIn, TopIs, Before, Reached, Exhausted}
 use Rattle.rounds.specs.Kept.{KeptAll}
 use Rattle.rounds.specs.Round.{Halfway}
-use Rattle.rounds.specs.declared.Top.TheVariants.{At, Nowhere}
 
 module _ {rows : Table} where
   -- nothing is entered before round 1
@@ -81,10 +81,10 @@ module _ {rows : Table} (a : Accepted rows) {k : ℕ} {x : Slices} (b : Before r
 
     -- by what the scan for a top says
     module _ {c : ℕ} (count : c ≡ codes rows) where
-      pub ends : {u : ℕ} → TopIs rows c y.round k (At u) → Reached rows k u y
+      pub ends : {u : ℕ} → TopIs rows c y.round k (Some u) → Reached rows k u y
       ends t = let g = rw count at t in reached g.0 g.1
 
-      pub goes_on : (w : ℕ) × Smallest rows w k → TopIs rows c y.round k Nowhere → Before rows (k + 1) y
+      pub goes_on : (w : ℕ) × Smallest rows w k → TopIs rows c y.round k None → Before rows (k + 1) y
       goes_on w t = next_round w (rw count at t)
 
     pub exhausted : Searched rows (k - 1) y → Exhausted rows (k - 1) y

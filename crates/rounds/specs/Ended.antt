@@ -1,14 +1,13 @@
 -- 01, section 5: the rounds one after another, and how they end.
-use Rattle.std.specs.Prelude.{ℕ, suc, ◌-◌, ◌<◌, ◌≤◌, List, ◌≡◌, get_or}
+use Rattle.std.specs.Prelude.{ℕ, suc, ◌-◌, ◌<◌, ◌≤◌, List, ◌≡◌, get_or, Option}
 use Rattle.meaning.specs.Code.{codes, Good}
 use Rattle.meaning.specs.Marked.{Smallest}
 use Rattle.meaning.specs.Outcome.{Slices, Searched}
 use Rattle.meaning.specs.Table.{Table}
 use Rattle.rounds.specs.Kept.{KeptAll}
+use Rattle.rounds.specs.Round.{Least}
 use Rattle.rounds.specs.declared.Found.{Found}
 use Rattle.rounds.specs.declared.Found.TheVariants.{Sat, Unsat}
-use Rattle.rounds.specs.declared.Top.{Top}
-use Rattle.rounds.specs.declared.Top.TheVariants.{At, Nowhere}
 
 -- Of c codes, u is a good one of round k.
 pub record GoodIn (rows : Table) (c : ℕ) (round : List ℕ) (k u : ℕ) : Type 0 where
@@ -17,9 +16,8 @@ pub record GoodIn (rows : Table) (c : ℕ) (round : List ℕ) (k u : ℕ) : Type
   pub in_round : get_or round u 0 ≡ k
 
 -- The smallest good code of round k, or that there is none.
-abbrev pub TopIs : Table → ℕ → List ℕ → ℕ → Top → Type 0
-TopIs rows c round k (At u) = GoodIn rows c round k u × ((w : ℕ) → GoodIn rows c round k w → u ≤ w)
-TopIs rows c round k Nowhere = (w : ℕ) → GoodIn rows c round k w → ⊥
+abbrev pub TopIs : Table → ℕ → List ℕ → ℕ → Option ℕ → Type 0
+TopIs rows c round k top = Least (GoodIn rows c round k) top
 
 -- The rounds before k each entered a code, and none of them a good one.
 pub record Before (rows : Table) (k : ℕ) (x : Slices) : Type 0 where

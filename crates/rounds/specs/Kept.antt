@@ -1,14 +1,39 @@
 -- A lent slice is used in its first C places and untouched beyond.
 use Rattle.std.specs.Prelude.{ℕ, ◌≤◌, List, ◌++◌, ◌≡◌, get_or, length, replicate, drop}
 use Rattle.meaning.specs.Outcome.{Slices, absent}
+use Rattle.rounds.specs.declared.lent.Lent.{Lent}
 
 -- What a slice is after its first c places are cleared to v.
-abbrev pub cleared : ℕ → ℕ → List ℕ → List ℕ
+abbrev pub cleared : {A : Type 0} → A → ℕ → List A → List A
 cleared v c old = replicate c v ++ drop c old
 
 -- The four slices as they stand.
 abbrev pub lent : List ℕ → List ℕ → List ℕ → List ℕ → Slices
 lent round firsts nexts used = record { round = round; firsts = firsts; nexts = nexts; used = used }
+
+-- What the four slices hold.
+abbrev pub held : Lent → Slices
+held l = lent l.round.now l.first.now l.next.now l.used.now
+
+-- The same four slices are lent.
+pub record SameLent (old new : Lent) : Type 0 where
+  pub same_round : new.round.ghost_name ≡ old.round.ghost_name
+  pub same_first : new.first.ghost_name ≡ old.first.ghost_name
+  pub same_next : new.next.ghost_name ≡ old.next.ghost_name
+  pub same_used : new.used.ghost_name ≡ old.used.ghost_name
+  pub same_codes : new.codes ≡ old.codes
+
+-- `used` is as it was: the rounds have no part in it.
+pub record UsedStays (old new : Lent) : Type 0 where
+  pub same : SameLent old new
+  pub used_stays : new.used.now ≡ old.used.now
+
+-- Round, first and next are as they were: the marks alone change.
+pub record RoundsStay (old new : Lent) : Type 0 where
+  pub same : SameLent old new
+  pub round_stays : new.round.now ≡ old.round.now
+  pub first_stays : new.first.now ≡ old.first.now
+  pub next_stays : new.next.now ≡ old.next.now
 
 -- All four slices cleared: no code is entered, none has a neighbour, none is used.
 pub record Cleared (c : ℕ) (old new : Slices) : Type 0 where
@@ -28,9 +53,3 @@ pub record KeptAll (c : ℕ) (old new : Slices) : Type 0 where
   pub kept_first : Kept c old.firsts new.firsts
   pub kept_next : Kept c old.nexts new.nexts
   pub kept_used : Kept c old.used new.used
-
--- The slices of the rounds have a place for every code.
-pub record Room (c : ℕ) (x : Slices) : Type 0 where
-  pub room_round : c ≤ length x.round
-  pub room_first : c ≤ length x.firsts
-  pub room_next : c ≤ length x.nexts

@@ -1,4 +1,5 @@
-pub mod Given
+pub mod Room
+pub mod Tables
 pub mod Kept
 pub mod Round
 pub mod Ended

@@ -1,19 +1,21 @@
 -- 01, section 5: a round under way. Codes entered in it are not used in it, so every code looks for its neighbours among those of the rounds
 -- before.
-use Rattle.std.specs.Prelude.{ℕ, ◌+◌, ◌-◌, ◌<◌, ◌≤◌, Bool, true, false, List, [], ◌≡◌, get_or}
+use Rattle.std.specs.Prelude.{ℕ, ◌+◌, ◌-◌, ◌<◌, ◌≤◌, Bool, true, false, List, [], ◌≡◌, get_or, Option, Some, None}
 use Rattle.codes.specs.Parts.{flag_by}
 use Rattle.meaning.specs.Code.{codes, HasFlag, Takes}
 use Rattle.meaning.specs.Marked.{Smallest}
 use Rattle.meaning.specs.Outcome.{Slices, recorded, absent, RoundIs, NeighbourIs, Searched}
-use Rattle.meaning.specs.Table.{Side, down, Table}
+use Rattle.meaning.specs.Table.{Side, down, up, Table}
 use Rattle.rounds.specs.Kept.{lent, KeptAll}
-use Rattle.rounds.specs.declared.scan.Beside.{Beside}
-use Rattle.rounds.specs.declared.scan.Beside.TheVariants.{Settled, Stop}
-use Rattle.table.specs.Rows.{dir_of}
+use Rattle.rounds.specs.declared.lent.Lent.{Lent}
 
 -- The slices while the rounds run: `used` has no part in them.
 abbrev pub running : List ℕ → List ℕ → List ℕ → Slices
 running round firsts nexts = lent round firsts nexts []
+
+-- The same, of the memory lent.
+abbrev pub run : Lent → Slices
+run l = running l.round.now l.first.now l.next.now
 
 -- Code u is of a round before k, and t takes it at the side s.
 pub record Taken (rows : Table) (round : List ℕ) (k : ℕ) (s : Side) (t u : ℕ) : Type 0 where
@@ -22,16 +24,16 @@ pub record Taken (rows : Table) (round : List ℕ) (k : ℕ) (s : Side) (t u : �
   pub before : get_or round u 0 < k
   pub takes : Takes rows s t u
 
--- What is seen of a code u before the look rows are: its round is before k, and it has the flag of direction d.
-pub record Candidate (round : List ℕ) (m k d u : ℕ) : Type 0 where
+-- What is seen of a code u before the look rows are: its round is before k, and it has the flag up at the side s.
+pub record Candidate (round : List ℕ) (m k : ℕ) (s : Side) (u : ℕ) : Type 0 where
   pub entered : 0 < get_or round u 0
   pub before : get_or round u 0 < k
-  pub flagged : flag_by m u (dir_of d) ≡ true
+  pub flagged : flag_by m u (up s) ≡ true
 
--- The smallest number with a property, or 65535 where none has it.
-pub data Least (P : ℕ → Type 0) : ℕ → Type 0 where
-  least : {u : ℕ} → P u → ((w : ℕ) → P w → u ≤ w) → Least P u
-  none : ((w : ℕ) → P w → ⊥) → Least P absent
+-- The smallest number with a property, or that none has it.
+abbrev pub Least : (ℕ → Type 0) → Option ℕ → Type 0
+Least P (Some u) = P u × ((w : ℕ) → P w → u ≤ w)
+Least P None = (w : ℕ) → P w → ⊥
 
 -- What is recorded of code t at the side s when round k enters it: the smallest code that it takes, or 65535 where it has no flag there.
 pub data Settles (rows : Table) (round : List ℕ) (k : ℕ) (s : Side) (t : ℕ) : ℕ → Type 0 where
@@ -44,9 +46,9 @@ pub record Stuck (rows : Table) (round : List ℕ) (k : ℕ) (s : Side) (t : ℕ
   pub none_taken : (w : ℕ) → Taken rows round k s t w → ⊥
 
 -- A side is settled or stuck.
-abbrev pub SideIs : Table → List ℕ → ℕ → Side → ℕ → Beside → Type 0
-SideIs rows round k s t (Settled u) = Settles rows round k s t u
-SideIs rows round k s t Stop = Stuck rows round k s t
+abbrev pub SideIs : Table → List ℕ → ℕ → Side → ℕ → Option ℕ → Type 0
+SideIs rows round k s t (Some u) = Settles rows round k s t u
+SideIs rows round k s t None = Stuck rows round k s t
 
 -- Round k is under way and has visited the codes below t: those are as round k leaves them, the others as the round before left them.
 pub record Halfway (rows : Table) (k t : ℕ) (x : Slices) : Type 0 where

@@ -1,9 +1,13 @@
 -- 01, section 5: used is 1 for codes met from the top through first and next, else 0. A neighbour is of an earlier round, so one pass over the
 -- codes for each round, from the height down, meets them all.
-use Rattle.std.specs.Prelude.{ℕ, ◌<◌, ◌≤◌, cond, List, ◌≢◌, ◌≡◌, eqb, get_or, set}
+use Rattle.std.specs.Prelude.{ℕ, ◌<◌, ◌≤◌, cond, List, ◌≢◌, ◌≡◌, eqb, get_or, set, Option, Some, None}
 use Rattle.meaning.specs.Outcome.{Slices, recorded, absent, Met, UsedIs}
 use Rattle.meaning.specs.Table.{Side}
 use Rattle.rounds.specs.Kept.{Kept}
+
+-- The code that first or next holds, if there is one.
+abbrev pub code_in : ℕ → Option ℕ
+code_in u = cond (eqb u absent) None (Some u)
 
 -- `used` with code u marked, unless u says that there is none.
 unfoldable pub marked : ℕ → List ℕ → List ℕ

@@ -1,76 +1,46 @@
-ghost use Rattle.std.specs.Prelude.{◌-◌, ◌<◌};
+ghost use Rattle.std.specs.Prelude.{◌≡◌, ◌-◌, ◌<◌};
+ghost use Rattle.meaning.specs.Code.{codes};
 ghost use Rattle.meaning.specs.Outcome.{Searched};
-ghost use Rattle.table.specs.Rows.{table_in};
-ghost use Rattle.codes.specs.Sights.{Sights};
-ghost use Rattle.rounds.specs.Given.{Given};
-ghost use Rattle.rounds.specs.Kept.{Room};
-ghost use Rattle.rounds.specs.Round.{running, Halfway, Visited, Over};
+ghost use Rattle.rounds.specs.Kept.{UsedStays};
+ghost use Rattle.rounds.specs.Round.{run, Halfway, Visited, Over};
+ghost use Rattle.rounds.specs.Tables.{table_given};
 
-use crate::scan;
-use crate::scan::Beside;
+use crate::given::Given;
+use crate::lent::Lent;
+use table::direction::Side;
 
-// Enters code t in round k, if it is not entered yet and can be.
-fn enter_one(
-    cells: &[u32],
-    places: &[u8],
-    order: &[u8],
-    look: &[u8],
-    m: usize,
-    c: usize,
-    sights: &[u16],
-    round: &mut [u16],
-    first: &mut [u16],
-    next: &mut [u16],
-    k: u16,
-    t: usize,
-) -> bool
-    requires { Given cells.now places.now order.now look.now m c × Room c (running round.old first.old next.old) × (t < c) × Halfway (table_in cells.now) k t (running round.old first.old next.old) × Sights (table_in cells.now) look.now m sights.now }
-    ensures { Visited (table_in cells.now) k t result (running round.old first.old next.old) (running round.new first.new next.new) }
-{
-    if round[t] != 0 {
-        return false;
-    }
-    if !codes::proper(cells, look, m, t) {
-        return false;
-    }
-    let Beside::Settled(a) = scan::settle(cells, places, order, look, m, c, sights, round, k, 1, t)
-    else {
-        return false;
-    };
-    let Beside::Settled(b) = scan::settle(cells, places, order, look, m, c, sights, round, k, 2, t)
-    else {
-        return false;
-    };
-    round[t] = k;
-    first[t] = a;
-    next[t] = b;
-    true
-}
-
-// Round k: whether it enters a code.
-pub fn one_round(
-    cells: &[u32],
-    places: &[u8],
-    order: &[u8],
-    look: &[u8],
-    m: usize,
-    c: usize,
-    sights: &[u16],
-    round: &mut [u16],
-    first: &mut [u16],
-    next: &mut [u16],
-    k: u16,
-) -> bool
-    requires { Given cells.now places.now order.now look.now m c × Room c (running round.old first.old next.old) × (0 < k) × Searched (table_in cells.now) (k - 1) (running round.old first.old next.old) × Sights (table_in cells.now) look.now m sights.now }
-    ensures { Over (table_in cells.now) k result (running round.old first.old next.old) (running round.new first.new next.new) }
-{
-    let mut any = false;
-    for t in 0..c {
-        if enter_one(
-            cells, places, order, look, m, c, sights, round, first, next, k, t,
-        ) {
-            any = true;
+impl Given<'_> {
+    // Enters code t in round k, if it is not entered yet and can be.
+    fn enter_one(&self, memory: &mut Lent, k: u16, t: usize) -> bool
+        requires { (memory.old.codes ≡ codes (table_given self.now)) × (t < memory.old.codes) × Halfway (table_given self.now) k t (run memory.old) }
+        ensures { Visited (table_given self.now) k t result (run memory.old) (run memory.new) × UsedStays memory.old memory.new }
+    {
+        if memory.round[t] != 0 || !self.seen.layout.looks.proper(t) {
+            return false;
         }
+        let Some(first) = self.settle(memory, k, Side::First, t) else {
+            return false;
+        };
+        let Some(next) = self.settle(memory, k, Side::Next, t) else {
+            return false;
+        };
+        memory.round[t] = k;
+        memory.first[t] = first;
+        memory.next[t] = next;
+        true
     }
-    any
+
+    // Round k: whether it enters a code.
+    pub(crate) fn one_round(&self, memory: &mut Lent, k: u16) -> bool
+        requires { (memory.old.codes ≡ codes (table_given self.now)) × (0 < k) × Searched (table_given self.now) (k - 1) (run memory.old) }
+        ensures { Over (table_given self.now) k result (run memory.old) (run memory.new) × UsedStays memory.old memory.new }
+    {
+        let mut any = false;
+        for t in 0..memory.codes {
+            if self.enter_one(memory, k, t) {
+                any = true;
+            }
+        }
+        any
+    }
 }

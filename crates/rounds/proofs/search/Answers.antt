@@ -1,24 +1,42 @@
 -- The cleared slices are those before round 1; the rounds and the marks leave the outcome.
-use Rattle.rounds.proofs.Answer.{before_one, room_cleared, marks_from, answers_sat, answers_unsat}
+use Rattle.rounds.proofs.Answer.{before_one, marks_from, answers_sat, answers_unsat}
+use Rattle.rounds.proofs.Places.{same_then}
 use Rattle.rounds.proofs.search.Goals as goal
 
 pub seen_rounds-found-requires : goal.seen_rounds-found-requires
 seen_rounds-found-requires c =
     let r = c.requires in
-    let d = c.clear_all.ensures in
-    (r.0, room_cleared d r.1 r.2, before_one d r.0.count)
+    let d = c.clear.ensures in
+    (r.0, rw d.1.same_codes r.1, before_one d.0 r.1)
 
 pub mark_used-requires-clause-linked : goal.mark_used-requires-clause-linked
 mark_used-requires-clause-linked c =
     let r = c.requires in
-    (marks_from c.clear_all.ensures r.1 r.2 r.0.accepted r.0.count c.seen_rounds-found.ensures c.in-Sat.is).0
+    let d = c.clear.ensures in
+    let e = c.seen_rounds-found.ensures in
+    rw (e.1.same.same_codes, d.1.same_codes) (marks_from d.0 c.args.memory.now.room r.0 r.1 e.0 c.in-Sat.is).0
+
+pub mark_used-requires-clause-from_top : goal.mark_used-requires-clause-from_top
+mark_used-requires-clause-from_top c =
+    let r = c.requires in
+    let d = c.clear.ensures in
+    let e = c.seen_rounds-found.ensures in
+    rw (e.1.same.same_codes, d.1.same_codes, e.1.used_stays) (marks_from d.0 c.args.memory.now.room r.0 r.1 e.0 c.in-Sat.is).1
 
 pub returns-in-Sat : goal.returns-in-Sat
 returns-in-Sat c =
     let r = c.requires in
-    answers_sat c.clear_all.ensures r.1 r.2 r.0.accepted r.0.count c.seen_rounds-found.ensures c.in-Sat.is c.mark_used.ensures
+    let d = c.clear.ensures in
+    let e = c.seen_rounds-found.ensures in
+    let k = c.mark_used.ensures in (
+      rw (k.1.round_stays, k.1.first_stays, k.1.next_stays)
+          (answers_sat d.0 c.args.memory.now.room r.0 r.1 e.0 c.in-Sat.is (rw (e.1.same.same_codes, d.1.same_codes, e.1.used_stays) at k.0)),
+      same_then d.1 (same_then e.1.same k.1.same),
+    )
 
 pub returns-in_default : goal.returns-in_default
 returns-in_default c =
     let r = c.requires in
-    answers_unsat c.clear_all.ensures r.1 r.2 r.0.accepted r.0.count c.seen_rounds-found.ensures c.in_default.is
+    let d = c.clear.ensures in
+    let e = c.seen_rounds-found.ensures in
+    (rw e.1.used_stays (answers_unsat d.0 c.args.memory.now.room r.0 r.1 e.0 c.in_default.is), same_then d.1 e.1.same)

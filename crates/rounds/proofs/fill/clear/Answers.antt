@@ -1,11 +1,6 @@
-use Rattle.rounds.proofs.Places.{clear_none, clear_more, clear_done}
+use Rattle.std.proofs.Common.{arith, take}
+use Rattle.rounds.proofs.Filled.{filled_more}
 use Rattle.rounds.proofs.fill.clear.Goals as goal
 
-pub loop-i-init : goal.loop-i-init
-loop-i-init c = clear_none
-
-pub loop-i-preserved : goal.loop-i-preserved
-loop-i-preserved c = clear_more c.requires c.loop-i-test.true c.loop-i.invariant
-
-pub returns : goal.returns
-returns c = clear_done c.loop-i-test.false c.loop-i.invariant
+pub loop-place-preserved : goal.loop-place-preserved
+loop-place-preserved g c = rw c.loop-place.invariant (filled_more c.loop-place.place-index c.args.v (take c.args.c c.args.slice.now) (omega arith))

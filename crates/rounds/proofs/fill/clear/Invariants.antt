@@ -1,6 +1,7 @@
--- The loop has cleared i places.
-use Rattle.rounds.proofs.Places.{Clearing}
+-- The places so far are cleared.
+use Rattle.std.proofs.Common.{◌≡◌}
+use Rattle.rounds.specs.Kept.{cleared}
 use Rattle.rounds.proofs.fill.clear.Given as goal
 
-abbrev pub invariant-loop-i : goal.invariant-loop-i
-invariant-loop-i l = Clearing l.v l.c l.i l.initial.slice l.slice
+abbrev pub invariant-loop-place : goal.invariant-loop-place
+invariant-loop-place g l = l.place-items ≡ cleared l.v l.place-index l.initial.place-items

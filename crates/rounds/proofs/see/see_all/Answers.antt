@@ -1,4 +1,5 @@
 use Rattle.std.proofs.Common.{◌<◌, length, arith}
+use Rattle.std.proofs.lemmas.List.{set-get_or}
 use Rattle.rounds.proofs.Seen.{one_kept}
 use Rattle.rounds.proofs.see.see_all.Goals as goal
 use Rattle.rounds.proofs.see.see_all.Goals.{then-proper, else-proper}
@@ -10,5 +11,5 @@ loop-u-preserved c =
       | then-proper w ↦
           let inside : l.u < length l.sights = omega arith in
           rw w.sights-is (one_kept l.invariant l.u w.sight_of.result inside w.sight_of.ensures.0)
-      | else-proper w ↦ rw w.sights-is l.invariant
+      | else-proper w ↦ rw (w.sights-is, set-get_or l.sights l.u 0) l.invariant
     ]

@@ -4,4 +4,4 @@ use Rattle.table.specs.Rows.{table_in}
 use Rattle.rounds.proofs.see.see_all.Given as goal
 
 abbrev pub invariant-loop-u : goal.invariant-loop-u
-invariant-loop-u l = Sights (table_in l.cells) l.look l.m l.sights
+invariant-loop-u l = let looks = l.layout.looks in Sights (table_in looks.rows.now) looks.look.now looks.parts.m l.sights
