@@ -8,6 +8,7 @@ ghost use Rattle.table.specs.Decides.{Decides};
 use crate::rest::Rest;
 use table::{Kind, Row, Table};
 
+// Each field has a `let .. else` of its own: a form that the specification names.
 #[tactic(auto, unfolding(crate::specs::Parts::line_in, crate::specs::Parts::fields_in))]
 pub fn read_row(rest: &mut Rest<'_>) -> Option<Row>
     ensures takes { Takes rest.old rest.new result (line_in rest.old) }

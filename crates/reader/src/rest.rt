@@ -6,7 +6,7 @@ ghost use Rattle.reader.specs.Parts.{Takes, byte_in, digit_in, number_in, field_
 use std::marker::Model;
 use table::Kind;
 
-// `isnot` before `is`, its own beginning.
+// Words are byte strings: a form that the specification names. `isnot` stands before `is`, its own beginning.
 const WORDS: [(&[u8], Kind); 8] = [
     (b"yes", Kind::Yes),
     (b"no", Kind::No),
