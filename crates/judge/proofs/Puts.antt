@@ -1,42 +1,57 @@
--- Bytes put one after another at a place of lent memory.
-use Prim.Native.Nat.{ℕ, ◌+◌, ◌≤◌}
+-- Bytes put one after another into lent memory.
+use Prim.Native.Nat.{ℕ, ◌+◌}
 use mathlib.Core.List.{List, [], ◌++◌, append_assoc, append-nil}
 use mathlib.Core.Path.{◌≡◌, sym, ap, subst, ◌∙◌}
 use native.Mathlib.Omega.{arith}
 use lib.ListN.{length, drop, take, length-append}
 use lib.Seq.{length-take-le, take_at, drop_at, drop-drop}
-use Rattle.judge.specs.Writing.{Put}
+use Rattle.judge.specs.Writing.{Room, Wrote}
+use Rattle.judge.specs.declared.writer.Writer.{Writer}
 
 -- What is put in two parts, the second right behind the first.
-pub put_both : {at between after : ℕ} {xs ys old mid new : List ℕ} → at ≤ length old → Put at xs old mid between → Put between ys mid new after → Put at (xs ++ ys) old new after
-put_both {at} {between} {after} {xs} {ys} {old} {mid} {new} h p q =
-    let head = take at old ++ xs in
-    let rest = drop (at + length xs) old in
-    let parts : mid ≡ head ++ rest = p.stands ∙ sym (append_assoc (take at old) xs rest) in
-    let seam : length head ≡ between = omega (arith, length-append (take at old) xs, length-take-le at old h, p.ends) in
-    let first : take between mid ≡ head = rw parts (take_at head rest between seam) in
-    let last : drop between mid ≡ rest = rw parts (drop_at head rest between seam) in
-    let far : at + length xs + length ys ≡ at + length (xs ++ ys) = omega (arith, length-append xs ys) in
-    let beyond : drop (between + length ys) mid ≡ drop (at + length (xs ++ ys)) old = sym (drop-drop (length ys) between mid) ∙ ap (λ (l : List ℕ). drop (length ys) l) last ∙ drop-drop (length ys) (at + length xs) old ∙ ap (λ (k : ℕ). drop k old) far in
-    record { stands = q.stands ∙ rw (first, beyond) (simp append_assoc); ends = omega (arith, length-append xs ys, p.ends, q.ends) }
-
--- Of a whole text one part is put, from the start of the lent memory, and the rest is still to come.
-pub record Partly (whole rest old new : List ℕ) (at : ℕ) : Type 0 where
-  pub done : List ℕ
-  pub put : Put 0 done old new at
-  pub parts : whole ≡ done ++ rest
-
-pub partly_room : {whole old new : List ℕ} {at : ℕ} (bytes rest : List ℕ) → Partly whole (bytes ++ rest) old new at → at + length bytes ≤ length whole
-partly_room bytes rest p =
-    omega (arith, p.put.ends, ap length p.parts, length-append p.done (bytes ++ rest), length-append bytes rest)
-
-pub partly_more : {whole bytes rest old mid new : List ℕ} {at after : ℕ} → Partly whole (bytes ++ rest) old mid at → Put at bytes mid new after → Partly whole rest old new after
-partly_more {bytes = bytes} {rest = rest} p q =
+pub wrote_both : {w v u : Writer} {xs ys : List ℕ} → Room w xs → Wrote w xs v → Wrote v ys u → Wrote w (xs ++ ys) u
+wrote_both {w} {v} {u} {xs} {ys} room p q =
+    let old = w.bytes.now in
+    let mid = v.bytes.now in
+    let head = take w.at old ++ xs in
+    let rest = drop (w.at + length xs) old in
+    let parts : mid ≡ head ++ rest = p.stands ∙ sym (append_assoc (take w.at old) xs rest) in
+    let seam : length head ≡ v.at = omega (arith, length-append (take w.at old) xs, length-take-le w.at old (omega arith), p.ends) in
+    let first : take v.at mid ≡ head = rw parts (take_at head rest v.at seam) in
+    let last : drop v.at mid ≡ rest = rw parts (drop_at head rest v.at seam) in
+    let far : w.at + length xs + length ys ≡ w.at + length (xs ++ ys) = omega (arith, length-append xs ys) in
+    let beyond : drop (v.at + length ys) mid ≡ drop (w.at + length (xs ++ ys)) old = sym (drop-drop (length ys) v.at mid) ∙ ap (λ (l : List ℕ). drop (length ys) l) last ∙ drop-drop (length ys) (w.at + length xs) old ∙ ap (λ (k : ℕ). drop k old) far in
     record {
-      done = p.done ++ bytes;
-      put = put_both (omega arith) p.put q;
-      parts = p.parts ∙ sym (append_assoc p.done bytes rest);
+      same = q.same ∙ p.same;
+      stands = q.stands ∙ rw (first, beyond) (simp append_assoc);
+      long = q.long ∙ p.long;
+      ends = omega (arith, length-append xs ys, p.ends, q.ends);
     }
 
-pub partly_all : {whole old new : List ℕ} {at : ℕ} → Partly whole [] old new at → Put 0 whole old new at
-partly_all {whole} {old} {new} {at} p = subst (λ (l : List ℕ). Put 0 l old new at) (sym (p.parts ∙ append-nil p.done)) p.put
+-- Of a whole text one part is put, from the start of the lent memory, and the rest is still to come.
+pub record Partly (whole rest : List ℕ) (w v : Writer) : Type 0 where
+  pub start : w.at ≡ 0
+  pub room : Room w whole
+  pub done : List ℕ
+  pub wrote : Wrote w done v
+  pub parts : whole ≡ done ++ rest
+
+module _ {whole : List ℕ} (bytes rest : List ℕ) {w v : Writer} (p : Partly whole (bytes ++ rest) w v) where
+  many : length whole ≡ length p.done + (length bytes + length rest)
+  many = omega (arith, ap length p.parts, length-append p.done (bytes ++ rest), length-append bytes rest)
+
+  pub partly_room : Room v bytes
+  partly_room = omega (arith, many, p.room, p.wrote.long, p.wrote.ends)
+
+  pub partly_more : {u : Writer} → Wrote v bytes u → Partly whole rest w u
+  partly_more q =
+      record {
+        start = p.start;
+        room = p.room;
+        done = p.done ++ bytes;
+        wrote = wrote_both (omega (arith, many, p.room)) p.wrote q;
+        parts = p.parts ∙ sym (append_assoc p.done bytes rest);
+      }
+
+pub partly_all : {whole : List ℕ} {w v : Writer} → Partly whole [] w v → Wrote w whole v
+partly_all {whole} {w} {v} p = subst (λ (l : List ℕ). Wrote w l v) (sym (p.parts ∙ append-nil p.done)) p.wrote

@@ -1,14 +1,27 @@
 -- 02, C-11: what `judge` promises, for every table, every sheet and every length of lent memory.
-use Rattle.std.specs.Prelude.{ℕ, ◌<◌, ◌≤◌, List, ◌++◌, ◌≡◌, length, drop}
+use Rattle.std.specs.Prelude.{ℕ, ◌<◌, ◌≤◌, List, ◌++◌, ◌≡◌, length, drop, Result, Ok, Err, MatchResult}
 use Rattle.meaning.specs.Table.{Table}
 use Rattle.table.specs.declared.Row.{Row}
+use Rattle.table.specs.Refusals.{number_of, place_of}
+use Rattle.table.specs.declared.refusal.Refusal.{Refusal}
 use Rattle.reader.specs.Reading.{rows_read, refused}
 use Rattle.intake.specs.Loading.{Admits, table}
+use Rattle.sheets.specs.Lines.{line_limit}
 use Rattle.sheets.specs.Reading.{lines_read, refused as refused-at}
 use Rattle.sheets.specs.Links.{Loads}
 use Rattle.sheets.specs.declared.Line.{Line}
 use Rattle.judge.specs.Verdicts.{Verdicts}
+use Rattle.judge.specs.Writing.{output_limit}
 use Rattle.judge.specs.declared.Judged.{Judged}
+
+-- What crosses to another language: how many bytes were written, or a refusal and its place.
+abbrev pub judged_of : Result ℕ Refusal → Judged
+judged_of (Ok bytes) = record { written = bytes; refusal = 0; place = 0 }
+judged_of (Err r) = record { written = 0; refusal = number_of r; place = place_of r }
+
+-- No number is large.
+abbrev pub Small : Result ℕ Refusal → Type 0
+Small r = MatchResult r (λ bytes. bytes ≤ output_limit) (λ r. place_of r ≤ line_limit)
 
 pub record Numbers (a : Judged) (bytes number place : ℕ) : Type 0 where
   pub written_is : a.written ≡ bytes

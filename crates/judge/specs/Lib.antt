@@ -1,5 +1,5 @@
 pub mod Output
 pub mod Verdicts
+pub mod Writing
 pub mod Ready
 pub mod Judging
-pub mod Writing

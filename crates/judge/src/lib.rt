@@ -2,14 +2,18 @@
 
 // Where a rule holds on a sheet: the truth of row 0 at each of its lines.
 mod output;
+mod writer;
 
-ghost use Rattle.std.specs.Prelude.{length};
-ghost use Rattle.table.specs.Rows.{table_in, table_of};
-ghost use Rattle.sheets.specs.Lines.{lines_in};
-ghost use Rattle.judge.specs.Judging.{Numbers, JudgesLines, JudgesSheet, Judges};
-ghost use Rattle.judge.specs.Ready.{Ready, ReadyTable};
+ghost use Rattle.std.specs.Prelude.{◌≤◌, MatchResult};
+ghost use Rattle.table.specs.Refusals.{place_of};
+ghost use Rattle.table.specs.Rows.{table_in};
+ghost use Rattle.sheets.specs.Lines.{line_limit};
+ghost use Rattle.judge.specs.Judging.{judged_of, JudgesLines, Judges, Small};
+ghost use Rattle.judge.specs.Ready.{Ready};
 
-use table::Table;
+use sheets::Line;
+use table::Row;
+use table::refusal::Refusal;
 
 // What crosses to another language: how many bytes were written, or a refusal and its place.
 #[repr(C)]
@@ -26,59 +30,39 @@ pub const OUTPUT: usize = 1420;
 pub fn judge(table: &[u8], sheet: &[u8], out: &mut [u8]) -> Judged
     ensures { Judges table.now sheet.now out.old out.new result }
 {
-    let l = intake::admit(table);
-    let n = l.refusal;
-    let p = l.place;
-    if n != 0 {
-        return refused(n as u32, p as u32);
+    match judge_texts(table, sheet, out) {
+        Ok(bytes) => Judged {
+            written: bytes as u32,
+            refusal: 0,
+            place: 0,
+        },
+        Err(refusal) => Judged {
+            written: 0,
+            refusal: refusal.number(),
+            place: refusal.place() as u32,
+        },
     }
-    let t = l.table;
-    judge_sheet(t, sheet, out)
 }
 
 // The sheet is looked at once the table is admitted.
-fn judge_sheet(table: Table, sheet: &[u8], out: &mut [u8]) -> Judged
-    requires { ReadyTable table }
-    ensures { JudgesSheet (table_of table) sheet.now out.old out.new result }
+fn judge_texts(table: &[u8], sheet: &[u8], out: &mut [u8]) -> Result<usize, Refusal>
+    ensures judges { Judges table.now sheet.now out.old out.new (judged_of result) }
+    ensures small { Small result }
 {
-    let s = sheets::load(sheet);
-    let n = s.refusal;
-    let p = s.place;
-    if n != 0 {
-        return refused(n as u32, p as u32);
-    }
-    let cells = table.cells;
-    let rows = table.rows;
-    let read = s.sheet;
-    let lines = read.cells;
-    let k = read.lines;
-    judge_lines(&cells[..rows], &lines[..k], out)
+    let loaded = intake::admit(table)?;
+    let sheet = sheets::load(sheet)?;
+    judge_lines(loaded.table.rows(), sheet.lines(), out)
 }
 
 // The memory is tested before anything is worked out, so that a refusal costs nothing.
-fn judge_lines(cells: &[u32], lines: &[u32], out: &mut [u8]) -> Judged
-    requires { Ready cells.now lines.now }
-    ensures { JudgesLines (table_in cells.now) (lines_in lines.now) out.old out.new result }
+fn judge_lines(rows: &[Row], lines: &[Line], out: &mut [u8]) -> Result<usize, Refusal>
+    requires { Ready rows.now lines.now }
+    ensures judges { JudgesLines (table_in rows.now) lines.now out.old out.new (judged_of result) }
+    ensures small { Small result }
 {
-    let n = lines.len();
-    if out.len() < output::length_of(n) {
-        return refused(8, 0);
+    if out.len() < output::length_of(lines.len()) {
+        return Err(Refusal::NoRoom);
     }
-    let truth = truths::truths_of(cells, lines);
-    let bytes = output::write(&truth, n, out);
-    Judged {
-        written: bytes as u32,
-        refusal: 0,
-        place: 0,
-    }
-}
-
-fn refused(number: u32, place: u32) -> Judged
-    ensures { Numbers result 0 number place }
-{
-    Judged {
-        written: 0,
-        refusal: number,
-        place: place,
-    }
+    let truth = truths::truths_of(rows, lines);
+    Ok(output::write(&truth, lines.len(), out))
 }
