@@ -1,6 +1,6 @@
 #![tactic(auto)]
 
-// The reference tables of 01, section 8, and the edges of the text, each shown as `sheetsat` shows it.
+// The reference tables of the specification and the edges of the text, each shown as `sheetsat` shows it.
 mod edges;
 mod reference;
 

@@ -1,4 +1,4 @@
-// The reference tables of 01, section 8, each with its number there.
+// The reference tables of the specification, each with its number there.
 use crate::Case;
 
 // Tables that have an answer.

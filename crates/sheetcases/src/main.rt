@@ -1,6 +1,6 @@
 #![tactic(auto)]
 
-// Sheets held against tables, as `sheetjudge` shows them: 02, C-11. The cases are worked out by hand.
+// Sheets held against tables, as `sheetjudge` shows them. The cases are worked out by hand.
 mod refused;
 mod truths;
 
