@@ -22,8 +22,7 @@ second-digit x s n d = rw d
 -- a written number; behind one digit, the rest takes no further one
 pub number_read : (n : ℕ) (rest : List ℕ) → n < 100 → (n < 10 → (m : ℕ) → second m rest ≡ taken m rest) → number_in (decimal n ++ rest) ≡ taken n rest
 unfolding decimal
-number_read zero rest h f = refl
-number_read (suc k) rest h f = grind (arith, common_steps)
+number_read n rest h f = grind (arith, common_steps)
 
 -- what is taken is a number as it is written
 pub number_taken : (s : List ℕ) (n : ℕ) (rest : List ℕ) → number_in s ≡ taken n rest → (s ≡ decimal n ++ rest) × (n < 100)

@@ -85,7 +85,7 @@ impl<'a> Rest<'a> {
     }
 
     // A tab and a number.
-    pub(crate) fn field(&mut self) -> Option<u8>
+    pub fn field(&mut self) -> Option<u8>
         ensures takes { Takes self.old self.new result (field_in self.old) }
         ensures stays { IfNone result (self.new ≡ self.old) }
     {
