@@ -53,15 +53,23 @@ module _ (test : ℕ → Bool) where
       let h : 2 ^ k ≤ 2 ^ 13 = pow_mono few in
       omega (arith, packed_less k u)
 
--- packing n bits downwards: those from j on are packed
-module _ (test : ℕ → Bool) (n : ℕ) where
-  pub packed_none : (j : ℕ) → n ≤ j → 0 ≡ packed test (n - j) j
+-- packing the bits up to m downwards: those above j are packed
+module _ (test : ℕ → Bool) (m : ℕ) where
+  pub packed_none : 0 ≡ packed test (m - m) (suc m)
   unfolding packed
-  packed_none j h = let e : n - j ≡ 0 = omega arith in rw e
+  packed_none = let e : m - m ≡ 0 = omega arith in rw e
 
-  pub packed_down : (j s b : ℕ) → 0 < j → j ≤ n → s ≡ packed test (n - j) j → b ≡ cond (test (j - 1)) 1 0 → s * 2 + b ≡ packed test (n - (j - 1)) (j - 1)
+  packed_down : (j s b : ℕ) → s ≡ packed test (m - j) (suc j) → b ≡ from_bool (test j) → s * 2 + b ≡ packed test (suc (m - j)) j
   unfolding packed
-  packed_down j s b low high p q =
-      let e : n - (j - 1) ≡ suc (n - j) = omega arith in
+  packed_down j s b p q = rw (p, q, byte_is (test j))
+
+  pub packed_on : (j s b : ℕ) → 0 < j → j ≤ m → s ≡ packed test (m - j) (suc j) → b ≡ from_bool (test j) → s * 2 + b ≡ packed test (m - (j - 1)) (suc (j - 1))
+  packed_on j s b low high p q =
+      let e : m - (j - 1) ≡ suc (m - j) = omega arith in
       let f : suc (j - 1) ≡ j = omega arith in
-      rw (e, f, p, q)
+      rw (e, f) (packed_down j s b p q)
+
+  pub packed_last : (j s b : ℕ) → j ≡ 0 → s ≡ packed test (m - j) (suc j) → b ≡ from_bool (test j) → s * 2 + b ≡ packed test (suc m) 0
+  packed_last j s b z p q =
+      let e : m - 0 ≡ m = omega arith in
+      rw (z, e) at (packed_down j s b p q)

@@ -6,8 +6,8 @@ use mathlib.Core.Bool.{Bool, false}
 use mathlib.Core.List.{List}
 use mathlib.Core.Logic.{∥∥₁_elim}
 use mathlib.Core.Path.{◌≡◌, sym, ◌∙◌, ap}
-use lib.ListN.{get_or, length, set, length-map}
-use lib.Seq.{get_or-set_same, get_or-set_other}
+use lib.ListN.{get_or, length, set, take, length-map}
+use lib.Seq.{length-take-le, get_or-set_same, get_or-set_other}
 use Rattle.std.proofs.Props.{props}
 use Rattle.meaning.specs.Table.{Table, InRange}
 use Rattle.table.specs.declared.Row.{Row}
@@ -51,3 +51,7 @@ step_inside {rows} m k h =
 
 pub some_row : {rows : List Row} {order : List ℕ} → ∥ InOrder rows order ∥₁ → 0 < length rows
 some_row m = ∥∥₁_elim m (Prim.hlevel props) (λ o. o.some)
+
+-- there is a step for each row
+pub steps_long : {rows : List Row} {order : List ℕ} → ∥ InOrder rows order ∥₁ → length (take (length rows) order) ≡ length rows
+steps_long {rows} {order} m = ∥∥₁_elim m (Prim.hlevel props) (λ o. length-take-le (length rows) order o.enough)

@@ -48,8 +48,8 @@ impl<'a> Layout<'a> {
         ensures { AllWorked (table_in self.now.looks.rows.now) code result }
     {
         let mut truths = [false; Table::ROWS];
-        for k in 0..self.looks.rows.len() {
-            let row = usize::from(self.order[k]);
+        for row in &self.order[..self.looks.rows.len()] {
+            let row = usize::from(*row);
             truths[row] = self.truth(&truths, row, code);
         }
         truths
@@ -71,9 +71,7 @@ impl<'a> Layout<'a> {
         ensures { result ≡ sight_by self.now.looks.rows.now self.now.looks.look.now self.now.looks.parts.m truths.now }
     {
         let mut sight: usize = 0;
-        let mut j = self.looks.parts.m + 1;
-        while 0 < j {
-            j -= 1;
+        for j in (0..=self.looks.parts.m).rev() {
             sight = sight * 2 + usize::from(is_true(truths, self.subject_of(j)));
         }
         sight

@@ -1,5 +1,5 @@
 // A code's parts. It is taken apart by shifts: 2^m is no constant.
-ghost use Rattle.std.specs.Prelude.{◌&&◌, ◌||◌, ◌≡◌, ◌<◌};
+ghost use Rattle.std.specs.Prelude.{◌&&◌, ◌≡◌, ◌<◌};
 ghost use Rattle.meaning.specs.Table.{up, first, next};
 ghost use Rattle.table.specs.Directions.{dir};
 ghost use Rattle.codes.specs.Parts.{name_by, flag_by, bit_by};
@@ -32,15 +32,7 @@ impl Parts {
         }
     }
 
-    // Whether the code has one of the flags of the two ways up.
-    pub(crate) fn has_parent(self, code: usize) -> bool
-        ensures { result ≡ (flag_by self.m code (up first) || flag_by self.m code (up next)) }
-    {
-        self.has_flag(code, Direction::Up(Side::First))
-            || self.has_flag(code, Direction::Up(Side::Next))
-    }
-
-    // Whether it has both.
+    // Whether the code has both flags of the ways up.
     pub(crate) fn two_parents(self, code: usize) -> bool
         ensures { result ≡ (flag_by self.m code (up first) && flag_by self.m code (up next)) }
     {

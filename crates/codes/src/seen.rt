@@ -7,6 +7,7 @@ ghost use Rattle.codes.specs.Sights.{Sees, Sights};
 
 use crate::layout::Layout;
 use crate::parts::has_bit;
+use table::direction::{Direction, Side};
 
 // What stands for a code of which nothing is kept: a sight has 13 bits at the most. An `Option<u16>` for each code would take twice the memory,
 // of which a handheld has too little.
@@ -34,6 +35,12 @@ impl<'a> Seen<'a> {
         ensures { Decides result (Good (table_in self.now.layout.looks.rows.now) code) }
     {
         let parts = self.layout.looks.parts;
-        !parts.has_parent(code) && has_bit(self.sight(code), parts.m)
+        if parts.has_flag(code, Direction::Up(Side::First)) {
+            return false;
+        }
+        if parts.has_flag(code, Direction::Up(Side::Next)) {
+            return false;
+        }
+        has_bit(self.sight(code), parts.m)
     }
 }

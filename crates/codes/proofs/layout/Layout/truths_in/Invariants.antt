@@ -1,8 +1,8 @@
--- The rows of the first k places are worked out.
+-- The rows whose turn has been are worked out.
 use Rattle.std.proofs.Common.{◌≡◌, length}
 use Rattle.table.specs.Rows.{table_in}
 use Rattle.codes.proofs.Passing.{Passed}
 use Rattle.codes.proofs.layout.Layout.truths_in.Given as goal
 
-abbrev pub invariant-loop-k : goal.invariant-loop-k
-invariant-loop-k l = (length l.truths ≡ 48) × Passed (table_in l.self.looks.rows.now) l.self.order.now l.code l.k l.truths
+abbrev pub invariant-loop-row : goal.invariant-loop-row
+invariant-loop-row l = (length l.truths ≡ 48) × Passed (table_in l.self.looks.rows.now) l.self.order.now l.code l.row-index l.truths

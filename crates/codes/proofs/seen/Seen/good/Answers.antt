@@ -1,25 +1,27 @@
-use Rattle.std.proofs.Common.{sym, ◌∙◌, inl, inr, ⊎_elim}
-use Rattle.meaning.specs.Table.{first, next}
-use Rattle.table.specs.Rows.{table_in}
+use Rattle.std.proofs.Common.{sym, ◌∙◌}
+use Rattle.meaning.specs.Table.{first, next, up}
 use Rattle.table.proofs.Decides.{never, refuted}
-use Rattle.codes.proofs.Apart.{parent_decides}
+use Rattle.codes.proofs.Takes.{flag_is}
 use Rattle.codes.proofs.seen.Seen.good.Goals as goal
 
-pub returns-else-not-has_parent : goal.returns-else-not-has_parent
-returns-else-not-has_parent c =
-    let s = c.args.self.now.layout.looks in
-    let d = parent_decides (table_in s.rows.now) c.args.code s.parts.m s.looking.width.is_m c.has_parent.ensures in
-    rw c.if-not-has_parent.false (never (λ g. ⊎_elim (g.no_parent first) (g.no_parent next) (d.sound c.if-not-has_parent.false)))
+pub returns-then-has_flag : goal.returns-then-has_flag
+returns-then-has_flag c =
+    never (λ g. g.no_parent first ((flag_is c.args.self.now.layout.looks.looking c.args.code (up first) c.has_flag.ensures).sound c.if-has_flag.true))
 
-pub returns-then-not-has_parent : goal.returns-then-not-has_parent
-returns-then-not-has_parent c =
-    let s = c.args.self.now.layout.looks in
-    let d = parent_decides (table_in s.rows.now) c.args.code s.parts.m s.looking.width.is_m c.has_parent.ensures in
+pub returns-then-has_flag-2 : goal.returns-then-has_flag-2
+returns-then-has_flag-2 c = never (λ g. g.no_parent next ((flag_is c.args.self.now.layout.looks.looking c.args.code (up next) c.has_flag-2.ensures).sound c.if-has_flag-2.true))
+
+pub returns : goal.returns
+returns c =
+    let l = c.args.self.now.layout.looks.looking in
     let e = c.has_bit.ensures in
     let q = c.sight.ensures.question in
     record {
       sound = λ t. record {
-        no_parent = elim [ first ↦ λ p. refuted d c.if-not-has_parent.true (inl p) | next ↦ λ p. refuted d c.if-not-has_parent.true (inr p) ];
+        no_parent = elim [
+          | first ↦ refuted (flag_is l c.args.code (up first) c.has_flag.ensures) c.if-has_flag.false
+          | next ↦ refuted (flag_is l c.args.code (up next) c.has_flag-2.ensures) c.if-has_flag-2.false
+        ];
         true_here = q.sound (sym e ∙ t);
       };
       complete = λ g. e ∙ q.complete g.true_here;
