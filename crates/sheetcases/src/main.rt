@@ -7,16 +7,14 @@ mod truths;
 use std::io;
 use std::io::Write;
 
-pub(crate) struct Case {
-    pub(crate) label: &'static [u8],
-    pub(crate) table: &'static [u8],
-    pub(crate) sheet: &'static [u8],
-}
+// A label, the text of a table and that of a sheet.
+pub(crate) type Case = (&'static [u8], &'static [u8], &'static [u8]);
 
 fn show_case<W: Write>(out: &mut W, case: &Case) -> io::Result<()> {
-    out.write_all(case.label)?;
+    let (label, table, sheet) = *case;
+    out.write_all(label)?;
     out.write_all(b"\n")?;
-    show::show_judged(out, case.table, case.sheet)
+    show::show_judged(out, table, sheet)
 }
 
 fn show_cases<W: Write>(out: &mut W, cases: &[Case]) -> io::Result<()> {
