@@ -15,6 +15,7 @@ ghost use Rattle.sheets.specs.Links.{FaultFree};
 ghost use Rattle.truths.specs.Decided.{Decided};
 
 use asked::Asked;
+use found::Found;
 use sheets::{Line, Sheet};
 use table::{Row, Table};
 
@@ -31,5 +32,7 @@ pub fn truths_of(rows: &[Row], lines: &[Line]) -> [bool; CELLS]
         rows,
         spots: &spots[..lines.len()],
     };
-    asked.settle()
+    let mut found = Found::new();
+    asked.settle(&mut found);
+    found.truth
 }

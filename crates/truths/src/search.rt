@@ -3,9 +3,8 @@ ghost use Rattle.std.specs.Prelude.{◌≡◌};
 ghost use Rattle.table.specs.Decides.{Decides};
 ghost use Rattle.table.specs.Rows.{meant, table_in};
 ghost use Rattle.truths.specs.Found.{FoundAt};
-ghost use Rattle.truths.specs.Search.{Says, SaidAt, RestsAt, Handled, OnLine, AnyCell, Only, Resting, Settled};
+ghost use Rattle.truths.specs.Search.{Says, SaidAt, AllTrue, RestsAt, Handled, OnLine, AnyCell, Only, Resting, Settled};
 
-use crate::CELLS;
 use crate::asked::Asked;
 use crate::cell::Cell;
 use crate::found::Found;
@@ -15,20 +14,18 @@ use table::Row;
 use table::direction::Direction;
 
 impl Asked<'_> {
-    // Whether each row is true at each line.
-    pub(crate) fn settle(&self) -> [bool; CELLS]
-        ensures { Settled (table_in self.now.rows.now) self.now.spots.now result }
+    // All that is true is found, where nothing else was.
+    pub(crate) fn settle(&self, found: &mut Found)
+        ensures { AllTrue (table_in self.now.rows.now) self.now.spots.now found.old.truth → Settled (table_in self.now.rows.now) self.now.spots.now found.new.truth }
     {
-        let mut found = Found::new();
-        self.seed(&mut found);
+        self.seed(found);
         // An index by hand: the queue grows while it is read, so no iterator can go over it.
         let mut head: usize = 0;
         while head < found.queue.len {
             let cell = found.queue.items[head];
-            self.hand_on(&mut found, cell);
+            self.hand_on(found, cell);
             head += 1;
         }
-        found.truth
     }
 
     // Finds what is true by itself.

@@ -1,5 +1,6 @@
 -- What is laid out is fit for the search, and what the search settles is decided on the tree.
 use Rattle.truths.proofs.Bridge.{laid, decided}
+use Rattle.truths.proofs.Putting.{none_found}
 use Rattle.truths.proofs.truths_of.Goals as goal
 
 pub invariant_of-asked : goal.invariant_of-asked
@@ -10,4 +11,5 @@ invariant_of-asked c =
 pub returns : goal.returns
 returns c =
     let p = c.requires in
-    decided _ c.args.lines.now _ p.2 p.3 c.spots_of-spots.ensures _ c.settle.ensures
+    let settled = c.settle.ensures (λ q i f. absurd (none_found 12240 q i (rw c.new-found.ensures.0 at f))) in
+    decided _ c.args.lines.now _ p.2 p.3 c.spots_of-spots.ensures _ settled

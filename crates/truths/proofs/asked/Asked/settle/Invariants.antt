@@ -9,7 +9,7 @@ use Rattle.truths.proofs.asked.Asked.settle.Given as goal
 abbrev pub invariant-loop-head : goal.invariant-loop-head
 invariant-loop-head l = record {
   passed : l.head ≤ l.found.queue.len;
-  right : AllTrue (table_in l.self.rows.now) l.self.spots.now l.found.truth;
+  right : AllTrue (table_in l.self.rows.now) l.self.spots.now l.fn.found.truth → AllTrue (table_in l.self.rows.now) l.self.spots.now l.found.truth;
   closed : ClosedBy (table_in l.self.rows.now) l.self.spots.now (Taken l.found.queue.items l.head) l.found.truth;
 }
 
