@@ -7,12 +7,12 @@ use mathlib.Core.List.{List, [], ◌∷◌, ◌++◌}
 use mathlib.Core.Path.{◌≡◌, refl, sym, ◌∙◌}
 use borrow.Author.Tests.{eqb-true, eq-eqb}
 use lib.Dec.{eqb}
-use lib.ListN.{length, get_or, take, drop}
-use lib.Seq.{length-take-le}
+use lib.ListN.{length, get_or, take, drop, replicate}
+use lib.Seq.{take-append_seam}
 use Rattle.std.specs.Prelude.{count_by}
 use Rattle.std.specs.List.{range_with_len, position_or_len, Contains}
 use Rattle.std.specs.List.Sorted.{IsPermutation, IsNonDecreasingBy}
-use Rattle.std.proofs.lemmas.List.{get_or-take, get_or-drop, get_or_append_left, get_or-append_right, get_or_default}
+use Rattle.std.proofs.lemmas.List.{get_or-drop, get_or_append_left, get_or-append_right, get_or_default}
 use Rattle.std.proofs.lemmas.List.FromFn.{length-range_with_len, get_or-range_with_len}
 use Rattle.std.proofs.lemmas.List.Sorted.{Contains-permutation, All-permutation, length_permutation}
 use Rattle.std.proofs.lemmas.List.Sums.{sum_by-cons, sum_by-le-sum_by, fails_before_first, passes_at_first}
@@ -21,6 +21,7 @@ use Rattle.meaning.specs.Table.{Table, InRange, Refers}
 use Rattle.meaning.proofs.Tests.{Is, false≢true}
 use Rattle.meaning.proofs.Theorems.{loops}
 use Rattle.counts.specs.Order.{Ordered}
+use Rattle.counts.proofs.Grown.{zeros}
 use Rattle.counts.proofs.Rank.{refers_there}
 use Rattle.loops.specs.Arranging.{reach}
 use Rattle.loops.specs.Closing.{marked, AllDone}
@@ -69,21 +70,19 @@ module _ (rows : Table) (m : List (List Bool)) (range : InRange rows) (marks : M
       (rw e (not_joined_to_itself j))
       (rw e (all_found rows m range closed (by_flat r)).mark)
 
-  -- rows that stood in their order, and by their reach
-  module _ (order sorted : List ℕ) (long : length rows ≤ length order) (first : (k : ℕ) → k < length rows → get_or order k 0 ≡ k) (rest : (k : ℕ) → length rows ≤ k → get_or order k 0 ≡ 0) (moved : IsPermutation (take (length rows) order) sorted) (rising : IsNonDecreasingBy (reach (length rows) m) sorted) where
-    taken : length (take (length rows) order) ≡ length rows
-    taken = length-take-le (length rows) order long
-
+  -- the rows' numbers in order and by their reach, and then nothing
+  module _ (numbers sorted rest : List ℕ) (long : length numbers ≡ length rows) (first : (k : ℕ) → k < length rows → get_or numbers k 0 ≡ k) (blank : (k : ℕ) → get_or rest k 0 ≡ 0) (moved : IsPermutation numbers sorted) (rising : IsNonDecreasingBy (reach (length rows) m) sorted) where
     as_long : length sorted ≡ length rows
-    as_long = length_permutation (take (length rows) order) sorted moved ∙ taken
+    as_long = length_permutation numbers sorted moved ∙ long
 
     abbrev place_of : ℕ → ℕ
     place_of i = position_or_len (eqb i) sorted
 
     there : (i : ℕ) → i < length rows → place_of i < length rows
     there i h =
-        let c = Contains-permutation (take (length rows) order) sorted i moved (i, omega (arith, taken), get_or_default (take (length rows) order) i i 0 (omega (arith, taken)) ∙ (get_or-take (length rows) order i 0 h ∙ first i h)) in
-        at c (dec_lt (place_of i) (length rows))
+        at
+        (Contains-permutation numbers sorted i moved (i, omega (arith, long), get_or_default numbers i i 0 (omega (arith, long)) ∙ first i h))
+        (dec_lt (place_of i) (length rows))
       where
         at : Contains sorted i → Dec (place_of i < length rows) → place_of i < length rows
         at c (yes l) = l
@@ -94,8 +93,8 @@ module _ (rows : Table) (m : List (List Bool)) (range : InRange rows) (marks : M
 
     small : (k : ℕ) → k < length rows → get_or sorted k 0 < length rows
     small k h =
-        All-permutation (λ (x : ℕ). x < length rows) (take (length rows) order) sorted moved
-        (λ j d g. let l : j < length rows = omega (arith, taken) in rw (get_or_default (take (length rows) order) j d 0 g, get_or-take (length rows) order j 0 l, first j l) l)
+        All-permutation (λ (x : ℕ). x < length rows) numbers sorted moved
+        (λ j d g. let l : j < length rows = omega (arith, long) in rw (get_or_default numbers j d 0 g, first j l) l)
         k 0 (omega (arith, as_long))
 
     before : (i j : ℕ) → Refers rows i j → place_of j < place_of i
@@ -113,15 +112,28 @@ module _ (rows : Table) (m : List (List Bool)) (range : InRange rows) (marks : M
             let g = rising (place_of i) (place_of j) 0 (omega arith) (omega (arith, there j b, as_long)) in
             absurd (omega (arith, reach_falls i j r, rw (stands i a, stands j b) at g))
 
-    pub ordered : Ordered rows (sorted ++ drop (length rows) order)
+    ordered : Ordered rows (sorted ++ rest)
     ordered = record {
       place = place_of;
       there = there;
-      stands = λ i h. get_or_append_left sorted (drop (length rows) order) 0 (place_of i) (omega (arith, there i h, as_long)) ∙ stands i h;
+      stands = λ i h. get_or_append_left sorted rest 0 (place_of i) (omega (arith, there i h, as_long)) ∙ stands i h;
       before = before;
-      rows_only = λ k h. rw (get_or_append_left sorted (drop (length rows) order) 0 k (omega (arith, as_long))) (small k h);
-      rest = λ k h. get_or-append_right sorted (drop (length rows) order) (length rows) k 0 as_long h ∙ (get_or-drop (length rows) order (k - length rows) 0 ∙ rest (length rows + (k - length rows)) (omega arith));
+      rows_only = λ k h. rw (get_or_append_left sorted rest 0 k (omega (arith, as_long))) (small k h);
+      rest = λ k h. get_or-append_right sorted rest (length rows) k 0 as_long h ∙ blank (k - length rows);
     }
 
-  pub ordered_rows : (n : ℕ) → n ≡ length rows → (order sorted : List ℕ) → n ≤ length order → ((k : ℕ) → k < n → get_or order k 0 ≡ k) → ((k : ℕ) → n ≤ k → get_or order k 0 ≡ 0) → IsPermutation (take n order) sorted → IsNonDecreasingBy (reach n m) sorted → Ordered rows (sorted ++ drop n order)
-  ordered_rows n e = rw e ordered
+  -- the same as they stand at the front of w zeros
+  module _ (w n : ℕ) (e : n ≡ length rows) (numbers sorted : List ℕ) (long : length numbers ≡ n) where
+    abbrev written : List ℕ
+    written = numbers ++ drop n (replicate w 0)
+
+    front : (l : List ℕ) → take n (numbers ++ l) ≡ numbers
+    front l = rw (← long) (take-append_seam numbers l)
+
+    blank : (k : ℕ) → get_or (drop n written) k 0 ≡ 0
+    blank k =
+        get_or-drop n written k 0 ∙ (get_or-append_right numbers (drop n (replicate w 0)) n (n + k) 0 long (omega arith) ∙ (get_or-drop n (replicate w 0) (n + k - n) 0 ∙ zeros w (n + (n + k - n))))
+
+    pub ordered_rows : ((k : ℕ) → k < n → get_or numbers k 0 ≡ k) → IsPermutation (take n written) sorted → IsNonDecreasingBy (reach n m) sorted → Ordered rows (sorted ++ drop n written)
+    ordered_rows first moved rising =
+        ordered numbers sorted (drop n written) (long ∙ e) (λ k h. first k (omega arith)) blank (rw (front (drop n (replicate w 0))) at moved) (rw e at rising)

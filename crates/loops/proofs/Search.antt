@@ -29,11 +29,6 @@ module _ (test : ℕ → Bool) (n : ℕ) where
       let e : x.1 ≡ x.0 = omega (arith, x.3, get_or-range_with_len 0 n x.0 x.1 l) in
       (x.0, l, rw e at x.4)
 
--- two tests that say the same of each number
-pub any_same : (p q : ℕ → Bool) (u n : ℕ) → ((k : ℕ) → u ≤ k → k < u + n → p k ≡ q k) → list_any p (range_with_len u n) ≡ list_any q (range_with_len u n)
-any_same p q u zero h = refl
-any_same p q u (suc n) h = rw (h u (omega arith) (omega arith), any_same p q (u + 1) n (λ k a b. h k (omega arith) (omega arith)))
-
 -- the first of k numbers from u on that passes
 module _ (test : ℕ → Bool) where
   pub find_some : (u k i : ℕ) → find test (range_with_len u k) ≡ Some i → (u ≤ i) × (i < u + k) × Is (test i) × ((j : ℕ) → u ≤ j → j < i → test j ≡ false)

@@ -16,8 +16,8 @@ pub(crate) fn order_of(pairs: &Pairs) -> [u8; Table::ROWS]
 {
     let n = pairs.rows.len();
     let mut order = [0u8; Table::ROWS];
-    for i in 0..n {
-        order[i] = i as u8;
+    for (i, row) in order[..n].iter_mut().enumerate() {
+        *row = i as u8;
     }
     order[..n].sort_unstable_by_key(|i| pairs.reach(usize::from(*i)));
     order

@@ -29,8 +29,8 @@ impl Pairs<'_> {
         };
         let k = usize::from(k);
         let direction = Direction::of(d);
-        (0..self.rows.len()).any(|l| (k == l || self.joined(k, l))
-            && goes_back(self.rows[l], direction, j))
+        self.rows.iter().enumerate().any(|(l, row)| (k == l || self.joined(k, l))
+            && goes_back(*row, direction, j))
     }
 
     // Row i is joined to some row that is joined to j.
