@@ -6,10 +6,8 @@ use Rattle.meaning.specs.Table.{Table}
 use Rattle.meaning.specs.Outcome.{Slices}
 use Rattle.meaning.proofs.Outcome.Unique.{outcome_unique}
 use Rattle.solver.specs.Demands.{SameNumbers}
-use Rattle.solver.specs.Solved.{Numbers, Says, numbered, Solves, short, answered, Replies, not_accepted, accepted}
+use Rattle.solver.specs.Solved.{Refused, Reply, Sat, Unsat, Numbers, Says, numbered, Solves, short, answered, Replies, not_accepted, accepted}
 use Rattle.solver.specs.declared.Answer.{Answer}
-use Rattle.solver.specs.declared.tables.Reply.{Reply}
-use Rattle.solver.specs.declared.tables.Reply.TheVariants.{Sat, Unsat, Refused}
 use Rattle.solver.proofs.Memory.{same_slices}
 use Rattle.solver.proofs.Replying.{of_refusal, of_table, without_room, with_room}
 

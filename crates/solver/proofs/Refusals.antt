@@ -7,9 +7,8 @@ use mathlib.Core.Path.{◌≡◌, sym, subst}
 use Rattle.meaning.specs.Outcome.{Slices, Verdict, sat, unsat}
 use Rattle.intake.proofs.Theorems.{one_answer}
 use Rattle.solver.specs.Demands.{Due, by_text, by_room, Demand1}
-use Rattle.solver.specs.Solved.{Numbers, Says, numbered, short, answered, Replies, not_accepted, accepted, Solved}
+use Rattle.solver.specs.Solved.{Reply, Numbers, Says, numbered, short, answered, Replies, not_accepted, accepted, Solved}
 use Rattle.solver.specs.declared.Answer.{Answer}
-use Rattle.solver.specs.declared.tables.Reply.{Reply}
 use Rattle.solver.proofs.Replying.{of_refusal, of_table, without_room}
 
 -- how a call ends: with a refusal that is due, or with a verdict

@@ -1,18 +1,16 @@
 -- Which case of a reply holds is settled by the text and by the room: the laws of `Replies` and `Solves` on which the demands stand.
-use Prim.Native.Nat.{ℕ}
+use Prim.Native.Nat.{ℕ, ◌≤◌}
 use native.Mathlib.Omega.{arith}
 use mathlib.Core.List.{List}
 use mathlib.Core.Path.{◌≡◌, subst}
 use Rattle.meaning.specs.Table.{Table}
 use Rattle.meaning.specs.Code.{codes}
-use Rattle.meaning.specs.Outcome.{Slices}
+use Rattle.meaning.specs.Outcome.{Slices, Verdict, sat, unsat}
 use Rattle.table.specs.declared.Row.{Row}
 use Rattle.reader.specs.Reading.{rows_read, refused}
 use Rattle.intake.specs.Loading.{Loads, table}
 use Rattle.intake.proofs.Theorems.{one_answer}
-use Rattle.solver.specs.Solved.{Room, Answers, Solves, short, answered, Replies, not_accepted, accepted}
-use Rattle.solver.specs.declared.tables.Reply.{Reply}
-use Rattle.solver.specs.declared.tables.Reply.TheVariants.{Refused}
+use Rattle.solver.specs.Solved.{Refused, Reply, Room, numbered, Answers, Solves, short, answered, Replies, not_accepted, accepted}
 
 -- a text has one reading, so no second way of being answered
 module _ {text : List ℕ} {old new : Slices} {r : Reply} where
@@ -34,3 +32,13 @@ module _ {rows : Table} {old new : Slices} {r : Reply} where
   pub with_room : Room (codes rows) old → Solves rows old new r → Answers rows old new r
   with_room m (short k e q) = absurd (k m)
   with_room m (answered _ a) = a
+
+refuses_not : {n p : ℕ} (v : Verdict) → Refused n p ≡ numbered v → ⊥
+refuses_not (sat h top) e = cc
+refuses_not (unsat r) e = cc
+
+-- a refusal's place is a row's, or 0
+pub small_place : {text : List ℕ} {old new : Slices} {n p : ℕ} → Replies text old new (Refused n p) → p ≤ 48
+small_place {text} {p = p} (not_accepted {n = m} {p = q} l e s) = let z = (one_answer text).small m q l in let f : q ≡ p = cc in omega (arith, z.2)
+small_place {p = p} (accepted l (short k e s)) = let f : p ≡ 0 = cc in omega arith
+small_place (accepted l (answered m a)) = absurd (refuses_not a.verdict a.numbers)

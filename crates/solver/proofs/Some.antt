@@ -12,10 +12,8 @@ use Rattle.meaning.proofs.Theorems.{settled}
 use Rattle.reader.specs.Reading.{Reading, rows_read, refused}
 use Rattle.intake.specs.Loading.{Loads, table}
 use Rattle.intake.proofs.Theorems.{one_answer}
-use Rattle.solver.specs.Solved.{Numbers, Says, Room, numbered, Solves, short, answered, Replies, not_accepted, accepted, Solved}
+use Rattle.solver.specs.Solved.{Refused, Reply, Sat, Unsat, Numbers, Says, Room, numbered, Solves, short, answered, Replies, not_accepted, accepted, Solved}
 use Rattle.solver.specs.declared.Answer.{Answer}
-use Rattle.solver.specs.declared.tables.Reply.{Reply}
-use Rattle.solver.specs.declared.tables.Reply.TheVariants.{Sat, Unsat, Refused}
 use Rattle.solver.proofs.Carried.{outcome_carried}
 use Rattle.solver.proofs.Laid.{lay_all}
 

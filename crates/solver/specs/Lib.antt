@@ -1,3 +1,2 @@
 pub mod Solved
-pub mod Ready
 pub mod Demands

@@ -1,15 +1,23 @@
 -- 01, sections 5 and 6 and demands 1 to 3: what `solve` promises, for every text and every four lengths of lent memory.
-use Rattle.std.specs.Prelude.{ℕ, ◌*◌, ◌^◌, ◌≤◌, List, ◌≡◌, length}
+use Rattle.std.specs.Prelude.{ℕ, ◌*◌, ◌^◌, ◌≤◌, List, ◌≡◌, length, Result, Ok, Err}
 use Rattle.meaning.specs.Table.{Side, Table, looks}
 use Rattle.meaning.specs.Code.{codes}
 use Rattle.meaning.specs.Outcome.{Slices, recorded, Verdict, sat, unsat, Outcome}
 use Rattle.table.specs.declared.Row.{Row}
 use Rattle.reader.specs.Reading.{rows_read, refused}
 use Rattle.intake.specs.Loading.{Loads, table}
+use Rattle.rounds.specs.Found.{verdict_of}
 use Rattle.rounds.specs.Kept.{KeptAll}
+use Rattle.rounds.specs.declared.Found.{Found}
+use Rattle.table.specs.Refusals.{number_of, place_of}
+use Rattle.table.specs.declared.refusal.Refusal.{Refusal}
 use Rattle.solver.specs.declared.Answer.{Answer}
-use Rattle.solver.specs.declared.tables.Reply.{Reply}
-use Rattle.solver.specs.declared.tables.Reply.TheVariants.{Sat, Unsat, Refused}
+
+-- The answer, by cases: height and top; rounds; a refusal's number and place.
+pub data Reply : Type 0 where
+  Sat : (height top : ℕ) → Reply
+  Unsat : (rounds : ℕ) → Reply
+  Refused : (number place : ℕ) → Reply
 
 -- 01's numbers for each case of the answer; every number that a case does not name is 0.
 pub record Numbers (a : Answer) (v h t n p : ℕ) : Type 0 where
@@ -28,6 +36,11 @@ Says a (Refused n p) = Numbers a 0 0 0 n p
 abbrev pub numbered : Verdict → Reply
 numbered (sat h top) = Sat h top
 numbered (unsat r) = Unsat r
+
+-- The reply that the code's answer stands for.
+abbrev pub reply_of : Result Found Refusal → Reply
+reply_of (Ok found) = numbered (verdict_of found)
+reply_of (Err r) = Refused (number_of r) (place_of r)
 
 -- Each of the four slices has a place for every one of n codes.
 pub record Room (n : ℕ) (x : Slices) : Type 0 where

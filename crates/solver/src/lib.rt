@@ -1,13 +1,15 @@
 #![tactic(auto)]
 
 // The solver: a text and four lent slices in, the answer's five numbers out.
-mod tables;
+mod search;
 
+ghost use Rattle.rounds.specs.Found.{verdict_of};
 ghost use Rattle.rounds.specs.Kept.{lent};
-ghost use Rattle.solver.specs.Solved.{Says, Replies, Solved, NameWidth};
+ghost use Rattle.solver.specs.Solved.{Says, numbered, reply_of, Replies, Solved, NameWidth};
 
-use table::Table;
-use tables::Reply;
+use rounds::Found;
+use rounds::lent::Lent;
+use table::refusal::Refusal;
 
 // What crosses to another language: verdict 0 refused, 1 SAT, 2 UNSAT; with UNSAT `height` holds the rounds.
 #[repr(C)]
@@ -20,6 +22,30 @@ pub struct Answer {
     pub place: u32,
 }
 
+impl From<Found> for Answer {
+    ghost from_gives = { λ found answer. Says answer (numbered (verdict_of found)) };
+
+    fn from(found: Found) -> Answer {
+        match found {
+            Found::Sat { height, top } => Answer {
+                verdict: 1,
+                height: u32::from(height),
+                top: u32::from(top),
+                refusal: 0,
+                place: 0,
+            },
+            Found::Unsat { rounds } => Answer {
+                verdict: 2,
+                height: u32::from(rounds),
+                top: 0,
+                refusal: 0,
+                place: 0,
+            },
+        }
+    }
+}
+
+// The four slices are parameters of their own, since C lends them so.
 pub fn solve(
     text: &[u8],
     round: &mut [u16],
@@ -29,68 +55,51 @@ pub fn solve(
 ) -> Answer
     ensures { Solved text.now (lent round.old first.old next.old used.old) (lent round.new first.new next.new used.new) result }
 {
-    let r = reply(text, round, first, next, used);
-    numbers(r)
-}
-
-fn numbers(reply: Reply) -> Answer
-    ensures { Says result reply }
-{
-    match reply {
-        Reply::Sat(h, t) => Answer {
-            verdict: 1,
-            height: h,
-            top: t,
-            refusal: 0,
-            place: 0,
-        },
-        Reply::Unsat(k) => Answer {
-            verdict: 2,
-            height: k,
-            top: 0,
-            refusal: 0,
-            place: 0,
-        },
-        Reply::Refused(n, p) => Answer {
+    match reply(text, round, first, next, used) {
+        Ok(found) => Answer::from(found),
+        Err(refusal) => Answer {
             verdict: 0,
             height: 0,
             top: 0,
-            refusal: n,
-            place: p,
+            refusal: refusal.number(),
+            place: refusal.place() as u32,
         },
     }
 }
 
-// Reading and solving, one after the other: each can be called by itself.
+// A text is read, and then solved where each of the four slices has a place for every code.
 fn reply(
     text: &[u8],
     round: &mut [u16],
     first: &mut [u16],
     next: &mut [u16],
     used: &mut [u8],
-) -> Reply
-    ensures { Replies text.now (lent round.old first.old next.old used.old) (lent round.new first.new next.new used.new) result }
+) -> Result<Found, Refusal>
+    ensures { Replies text.now (lent round.old first.old next.old used.old) (lent round.new first.new next.new used.new) (reply_of result) }
 {
-    let l = intake::load(text);
-    let n = l.refusal;
-    let p = l.place;
-    if n != 0 {
-        return Reply::Refused(n as u32, p as u32);
+    let loaded = intake::load(text)?;
+    let rows = loaded.table.rows();
+    let codes = counts::size_of(rows) * 16;
+    let shortest = round.len().min(first.len()).min(next.len()).min(used.len());
+    if shortest < codes {
+        return Err(Refusal::NoRoom);
     }
-    let t = l.table;
-    let order = l.order;
-    tables::solve_table(t, order, round, first, next, used)
+    let mut memory = Lent {
+        round,
+        first,
+        next,
+        used,
+        codes,
+    };
+    Ok(search::search_rows(rows, &loaded.order, &mut memory))
 }
 
 // How many codes a name has: a code's name is the code divided by it. 0 where the text is refused.
 pub fn name_width(text: &[u8]) -> usize
     ensures { NameWidth text.now result }
 {
-    let l = intake::load(text);
-    let n = l.refusal;
-    if n != 0 {
-        return 0;
+    match intake::load(text) {
+        Ok(loaded) => 16 << counts::looks_of(loaded.table.rows()),
+        Err(_) => 0,
     }
-    let t = l.table;
-    tables::width_of(t)
 }

@@ -1,11 +1,17 @@
-use Rattle.solver.proofs.Loading.{ready, no_width, table_width}
+use Rattle.std.proofs.Common.{◌+◌, ◌≤◌, ◌<◌, ◌^◌, arith, shl_exact}
+use Rattle.codes.proofs.LaidOut.{few_looks}
+use Rattle.solver.proofs.Loading.{is_accepted, no_width, table_width}
 use Rattle.solver.proofs.name_width.Goals as goal
 
-pub returns-then-n-ne0 : goal.returns-then-n-ne0
-returns-then-n-ne0 c = no_width c.load-l.ensures.answered c.if-n-ne0.true
+pub returns-in-Ok : goal.returns-in-Ok
+returns-in-Ok c =
+    let a = c.in-Ok.ensures.answered in
+    let m = c.looks_of.result in
+    let e = rw c.rows.ensures at c.looks_of.ensures.0 in
+    let w = few_looks _ (is_accepted a).room in
+    let g : 5 + m ≤ 64 = omega (arith, e) in
+    let h : 16 < 2 ^ 5 = omega arith in
+    table_width a _ (rw (← e) (shl_exact 5 m 64 h g))
 
-pub width_of-requires : goal.width_of-requires
-width_of-requires c = ready c.load-l.ensures.answered c.if-n-ne0.false
-
-pub returns : goal.returns
-returns c = table_width c.load-l.ensures.answered _ c.if-n-ne0.false c.width_of.ensures
+pub returns-in-Err : goal.returns-in-Err
+returns-in-Err c = no_width c.in-Err.ensures.answered

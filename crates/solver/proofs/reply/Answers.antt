@@ -1,15 +1,38 @@
-use Rattle.std.proofs.Common.{arith}
-use Rattle.solver.proofs.Loading.{small_refusal, refused_reply, ready, solved_reply}
+-- A refused text, too little room, or what the search answered.
+use Rattle.std.proofs.Common.{refl, rules, arith}
+use Rattle.std.proofs.lemmas.Result.{err_from_is_err_and}
+use Rattle.solver.specs.Solved.{short, answered}
+use Rattle.solver.proofs.Answering.{in_order, counted, room_in, no_room_in, finished}
+use Rattle.solver.proofs.Loading.{is_accepted, refused_reply, solved_reply}
 use Rattle.solver.proofs.reply.Goals as goal
 
-pub overflow_cast-result-then-n-ne0 : goal.overflow_cast-result-then-n-ne0
-overflow_cast-result-then-n-ne0 c = omega (arith, (small_refusal c.load-l.ensures.answered c.if-n-ne0.true).1)
+pub returns-in_err-loaded : goal.returns-in_err-loaded
+returns-in_err-loaded c =
+    let p = err_from_is_err_and c.from_residual.result c.from_residual.ensures.1 in
+    rw (p.1, p.2) (refused_reply c.in_err-loaded.ensures.answered _)
 
-pub returns-then-n-ne0 : goal.returns-then-n-ne0
-returns-then-n-ne0 c = refused_reply c.load-l.ensures.answered _ c.if-n-ne0.true
+pub overflow_mul-codes : goal.overflow_mul-codes
+overflow_mul-codes c =
+    let a = is_accepted c.in_ok-loaded.ensures.answered in
+    omega (arith, a.room, rw c.rows-rows.ensures at c.size_of-codes.ensures)
 
-pub solve_table-requires : goal.solve_table-requires
-solve_table-requires c = (ready c.load-l.ensures.answered c.if-n-ne0.false, c.load-l.ensures.order)
+pub returns-then-shortest-codes : goal.returns-then-shortest-codes
+returns-then-shortest-codes c =
+    let n = rw c.rows-rows.ensures at c.size_of-codes.ensures in
+    solved_reply c.in_ok-loaded.ensures.answered _ _ _ (short (no_room_in _ _ n (omega arith)) refl refl)
+
+pub invariant_of-memory : goal.invariant_of-memory
+invariant_of-memory c = record { room = record { room_round = omega arith; room_first = omega arith; room_next = omega arith; room_used = omega arith } }
+
+pub search_rows-requires : goal.search_rows-requires
+search_rows-requires c =
+    let l = c.in_ok-loaded.ensures in
+    let a = is_accepted l.answered in
+    rw c.rows-rows.ensures (a, in_order a (search rules) l.order, counted _ _ (rw c.rows-rows.ensures at c.size_of-codes.ensures))
 
 pub returns : goal.returns
-returns c = solved_reply c.load-l.ensures.answered _ _ _ c.if-n-ne0.false c.solve_table.ensures
+returns c =
+    let n = rw c.rows-rows.ensures at c.size_of-codes.ensures in
+    let e = rw c.rows-rows.ensures at c.search_rows.ensures in
+    solved_reply c.in_ok-loaded.ensures.answered _ _ _
+    (answered (room_in _ _ n (omega arith)) (finished c.search_rows.new.memory (search rules) (search rules) (search rules) (search rules) e.0))
