@@ -2,7 +2,7 @@
 
 // Sheets held against tables, as `sheetjudge` shows them. The cases are worked out by hand.
 mod refused;
-mod truths;
+mod judged;
 
 use std::io;
 use std::io::Write;
@@ -26,7 +26,7 @@ fn show_cases<W: Write>(out: &mut W, cases: &[Case]) -> io::Result<()> {
 
 fn main(rt: HostRuntime) -> io::Result<()> {
     let mut out = rt.stdout();
-    show_cases(&mut out, &truths::TRUTHS)?;
+    show_cases(&mut out, &judged::TRUTHS)?;
     show_cases(&mut out, &refused::BY_FORM)?;
     show_cases(&mut out, &refused::BY_TREE)
 }
