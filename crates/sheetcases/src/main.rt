@@ -1,8 +1,8 @@
 #![tactic(auto)]
 
 // Sheets held against tables, as `sheetjudge` shows them. The cases are worked out by hand.
-mod refused;
 mod judged;
+mod refused;
 
 use std::io;
 use std::io::Write;
