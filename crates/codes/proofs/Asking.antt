@@ -16,7 +16,7 @@ use Rattle.codes.specs.Fits.{FitsRow, Flagged}
 use Rattle.codes.specs.Layout.{Looking}
 use Rattle.codes.specs.Parts.{bit_by}
 use Rattle.codes.specs.Sights.{Sees}
-use Rattle.codes.proofs.Fits.{fits_forth, fits_back, fits_aside, flagged}
+use Rattle.codes.proofs.Fits.{fits_forth, fits_back, flagged}
 use Rattle.codes.proofs.Looking.{look_is, look_bit}
 
 module _ {rows : List Row} {look : List ℕ} {m : ℕ} (l : Looking rows look m) {j : ℕ} (h : j < m) {way named : ℕ} (cell : get_or rows (get_or look j 0) No ≡ Go way named) where
@@ -36,9 +36,6 @@ module _ {rows : List Row} {look : List ℕ} {m : ℕ} (l : Looking rows look m)
 
     pub fits_up : {own : ℕ} → dir_of way ≡ up s → a ≡ bit_by u j → b ≡ bit_by own j → Sees (table_in rows) look m t own → Decides (beq a b) (FitsRow (table_in rows) s t u (get_or look j 0))
     fits_up e q r w = same_as (fits_back _ _ _ _ _ (facing e)) (alike _ _ (look_bit l j h u q) (seen w r))
-
-  pub fits_else : {s : Side} {t u : ℕ} → (dir_of way ≡ down s → ⊥) → (dir_of way ≡ up s → ⊥) → FitsRow (table_in rows) s t u (get_or look j 0)
-  fits_else n o = fits_aside _ _ _ _ _ looked n o
 
   pub asks : (code : ℕ) → (HasBit (table_in rows) code (get_or look j 0) → HasFlag (table_in rows) code (dir_of way)) ↔ Flagged (table_in rows) code (get_or look j 0)
   asks code = flagged (table_in rows) code (get_or look j 0) looked

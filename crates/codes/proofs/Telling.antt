@@ -53,22 +53,26 @@ module _ {rows : List Row} {places : List ℕ} {m : ℕ} (l : Laid rows places m
     tells_isnot {n} e = known e (negated _ (named code n))
 
     -- the second row that is named is looked at only where the first leaves it open
-    module _ {i j : ℕ} {x : Bool} (p : x ≡ true_by truths i) where
+    module _ {i j n : ℕ} {x : Bool} (at : n ≡ i) (p : x ≡ true_by truths n) where
       pub tells_any_first : get_or rows row d ≡ Any i j → x ≡ true → Follows (table_in rows) code truths row x
-      tells_any_first e q = let s = there d e in record { decides = λ w. settled _ _ _ s (either_left (rw p (w _ (any_left s))) q) }
+      tells_any_first e q = let s = there d e in record { decides = λ w. settled _ _ _ s (either_left (rw (p, at) (w _ (any_left s))) q) }
 
       pub tells_all_first : get_or rows row d ≡ All i j → x ≡ false → Follows (table_in rows) code truths row x
-      tells_all_first e q = let s = there d e in record { decides = λ w. settled _ _ _ s (both_left (rw p (w _ (all_left s))) q) }
+      tells_all_first e q = let s = there d e in record { decides = λ w. settled _ _ _ s (both_left (rw (p, at) (w _ (all_left s))) q) }
 
-      module _ {y : Bool} (r : y ≡ true_by truths j) where
+      module _ {k : ℕ} {y : Bool} (to : k ≡ j) (r : y ≡ true_by truths k) where
         pub tells_any_second : get_or rows row d ≡ Any i j → x ≡ false → Follows (table_in rows) code truths row y
-        tells_any_second e q = let s = there d e in record { decides = λ w. settled _ _ _ s (either_right (rw p (w _ (any_left s))) q (rw r (w _ (any_right s)))) }
+        tells_any_second e q =
+            let s = there d e in
+            record { decides = λ w. settled _ _ _ s (either_right (rw (p, at) (w _ (any_left s))) q (rw (r, to) (w _ (any_right s)))) }
 
         pub tells_all_second : get_or rows row d ≡ All i j → x ≡ true → Follows (table_in rows) code truths row y
-        tells_all_second e q = let s = there d e in record { decides = λ w. settled _ _ _ s (both_right (rw p (w _ (all_left s))) q (rw r (w _ (all_right s)))) }
+        tells_all_second e q =
+            let s = there d e in
+            record { decides = λ w. settled _ _ _ s (both_right (rw (p, at) (w _ (all_left s))) q (rw (r, to) (w _ (all_right s)))) }
 
-    pub tells_go : {w i : ℕ} → get_or rows row d ≡ Go w i → Follows (table_in rows) code truths row (bit_by code (get_or places row 0))
-    tells_go e = known e (bit_decides _ _ _ _ place refl)
+    pub tells_go : {w i n : ℕ} {b : Bool} → get_or rows row d ≡ Go w i → n ≡ get_or places row 0 → b ≡ bit_by code n → Follows (table_in rows) code truths row b
+    tells_go e at p = known e (bit_decides _ _ _ _ (at ∙ place) p)
 
     pub tells_stop : {w : ℕ} → get_or rows row d ≡ Stop w → Follows (table_in rows) code truths row (not (flag_by m code (dir_of w)))
     tells_stop {w} e = known e (negated _ (flag_decides (table_in rows) code m l.width.is_m (dir_of w) refl))

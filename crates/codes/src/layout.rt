@@ -26,7 +26,7 @@ pub struct Layout<'a> {
 
 impl<'a> Layout<'a> {
     // Whether a row is true, by the truths of the rows that it names.
-    #[tactic(auto, using(crate::proofs::Telling::place_small, crate::proofs::Telling::tells_yes, crate::proofs::Telling::tells_no, crate::proofs::Telling::tells_is, crate::proofs::Telling::tells_isnot, crate::proofs::Telling::tells_any_first, crate::proofs::Telling::tells_any_second, crate::proofs::Telling::tells_all_first, crate::proofs::Telling::tells_all_second, crate::proofs::Telling::tells_go, crate::proofs::Telling::tells_stop))]
+    #[tactic(auto, using(crate::proofs::Telling::place_small, crate::proofs::Telling::tells_is, crate::proofs::Telling::tells_isnot, crate::proofs::Telling::tells_stop))]
     fn truth(&self, truths: &[bool], row: usize, code: usize) -> bool
         requires { row < length self.now.looks.rows.now }
         ensures { Follows (table_in self.now.looks.rows.now) code truths.now row result }

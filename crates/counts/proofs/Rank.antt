@@ -44,14 +44,6 @@ pub refers_there : {rows : Table} (i : ℕ) {j : ℕ} → Refers rows i j → i 
 refers_there {rows} i r = row_there rows i (λ n. absurd (omega (arith, above (λ k. 0) i r, ap (deeper (λ k. 0)) n)))
 
 module _ (rows : Table) where
-  depth_most : (most i : ℕ) → depth rows most i ≤ most
-  unfolding depth
-  depth_most zero i = omega arith
-  depth_most (suc most) i =
-      under (depth rows most) (suc most) (row_at rows i)
-      (λ j k e. (omega (arith, depth_most most j), omega (arith, depth_most most k)))
-      (λ j k e. (omega (arith, depth_most most j), omega (arith, depth_most most k)))
-
   -- where no chain of references has k steps, no depth is k
   depth_shallow : (k most i : ℕ) → Shallow (flat rows) k i → depth rows most i < k
   unfolding depth
@@ -68,10 +60,6 @@ module _ (rows : Table) where
   unfolding depth
   depth_stays zero i h = absurd (omega arith)
   depth_stays (suc most) i h = same (depth rows most) (depth rows (suc most)) (row_at rows i) (λ j l. depth_stays most j (omega arith))
-
-  pub rank_most : (i : ℕ) → rank_of rows i ≤ length rows
-  unfolding rank_of
-  rank_most i = depth_most (length rows) i
 
   -- where each depth is less than there are rows, it falls along each reference
   falls : ((i : ℕ) → i < length rows → depth rows (length rows) i < length rows) → (i j : ℕ) → Refers rows i j → rank_of rows j < rank_of rows i

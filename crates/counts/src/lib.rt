@@ -67,7 +67,8 @@ pub fn places_of(rows: &[Row]) -> [u8; Table::ROWS]
     places
 }
 
-// The rows of the bits: where each `go` row stands, in order.
+// The rows of the bits: where each `go` row stands, in order. The promise says what stands at every place, also beyond the last `go` row, and so
+// the whole array is given.
 pub fn look_rows_of(rows: &[Row]) -> [u8; Table::ROWS]
     requires { length rows.now ≤ row_limit }
     ensures { LookRows (table_in rows.now) result }
