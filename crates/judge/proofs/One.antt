@@ -17,9 +17,6 @@ use Rattle.judge.specs.declared.Judged.{Judged}
 use Rattle.judge.proofs.Answers.{grown}
 use Rattle.judge.proofs.OneVerdict.{one_verdict}
 
-clash : {A : Type 0} → ◌≡◌ {A = ℕ} 0 1 → A
-clash e = absurd (omega arith)
-
 pub record Same (x y : List ℕ) (a b : Judged) : Type 0 where
   pub numbers : SameNumbers a b
   pub memory : x ≡ y
@@ -58,8 +55,8 @@ module _ {old x y : List ℕ} {a b : Judged} where
         let f : n ≡ m = cc in
         let g : p ≡ q = cc in
         refusals f g r s
-    sheet_same (by_sheet k r) (by_lines l j) = clash (let e = (one_answer sheet).unique k l in cc)
-    sheet_same (by_lines k i) (by_sheet l s) = clash (let e = (one_answer sheet).unique k l in cc)
+    sheet_same (by_sheet k r) (by_lines l j) = let e = (one_answer sheet).unique k l in cc
+    sheet_same (by_lines k i) (by_sheet l s) = let e = (one_answer sheet).unique k l in cc
     sheet_same {rows} (by_lines {lines = u} k i) (by_lines {lines = v} l j) =
         let e = (one_answer sheet).unique k l in
         let f : u ≡ v = cc in
@@ -71,8 +68,8 @@ module _ {old x y : List ℕ} {a b : Judged} where
         let f : n ≡ m = cc in
         let g : p ≡ q = cc in
         refusals f g r s
-    judges_same text (by_table k r) (admitted l j) = clash (let e = (one_admission text).unique k l in cc)
-    judges_same text (admitted k i) (by_table l s) = clash (let e = (one_admission text).unique k l in cc)
+    judges_same text (by_table k r) (admitted l j) = let e = (one_admission text).unique k l in cc
+    judges_same text (admitted k i) (by_table l s) = let e = (one_admission text).unique k l in cc
     judges_same text (admitted {rows = u} k i) (admitted {rows = v} l j) =
         let e = (one_admission text).unique k l in
         let f : u ≡ v = cc in

@@ -24,6 +24,7 @@ pub(crate) fn write(truth: &[bool; CELLS], n: usize, out: &mut [u8]) -> usize
     ensures { Written truth.now n out.old out.new result }
 {
     let mut writer = Writer::new(out);
+    // A line's number is written too, so no iterator over every 48th truth would say this more plainly.
     for i in 0..n {
         writer.line(i, truth[i * Table::ROWS]);
     }

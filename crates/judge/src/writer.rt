@@ -37,6 +37,7 @@ impl<'a> Writer<'a> {
     }
 
     // A number below 1,000 with no leading zero.
+    #[tactic(auto, using(crate::proofs::Verdicts::numeral_room))]
     fn numeral(&mut self, i: usize)
         requires { (i < 1000) × Room self.old (numeral i) }
         ensures { Wrote self.old (numeral i) self.new }

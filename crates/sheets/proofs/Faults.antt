@@ -18,7 +18,7 @@ use Rattle.sheets.specs.Links.{Faulty, not_greater, not_there, never_named, name
 use Rattle.sheets.specs.Counting.{wrong, wrong_in, times_named, misnamed_at, faulty_at}
 use Rattle.sheets.specs.declared.Line.{Line}
 use Rattle.std.specs.Prelude.{Option, None, Some, MatchOption}
-use Rattle.sheets.proofs.Named.{dash_not_to, Twice, in_one, in_two, names_inside, some_line, two_fields, named, named_by_both, count_one, count_two, count_both}
+use Rattle.sheets.proofs.Named.{Twice, in_one, in_two, names_inside, some_line, two_fields, named, named_by_both, count_one, count_two, count_both}
 
 abbrev wrong_at : List Line → ℕ → Side → Bool
 wrong_at lines i s = wrong i (length lines) (link s (line_at lines i))
@@ -42,7 +42,7 @@ module _ (lines : List Line) (i : ℕ) where
 
   wrong_told : (l : Link) → Decides (wrong i (length lines) l) (Wrong l)
   unfolding Wrong
-  wrong_told None = never (λ w. dash_not_to w.1)
+  wrong_told None = never (λ w. let e = w.1 in cc)
   wrong_told (Some j) =
       same_as (λ h. (j, refl, h), λ w. let e : w.0 ≡ j = (let f = w.1 in cc) in rw e at w.2)
       (either (leb j i) (leb (length lines) j) (at_most j i) (at_most (length lines) j))

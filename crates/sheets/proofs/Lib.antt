@@ -1,6 +1,5 @@
 pub mod Numerals
 pub mod Written
-pub mod Stages
 pub mod Sheets
 pub mod Theorems
 pub mod Accepted

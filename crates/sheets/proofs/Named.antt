@@ -24,14 +24,10 @@ later : {l : Line} {lines : List Line} {j : ℕ} → Twice lines j → Twice (l 
 later (in_one k h) = in_one (suc k) h
 later (in_two k m d g h) = in_two (suc k) (suc m) (λ e. d (omega arith)) g h
 
--- no field is both
-pub dash_not_to : {j : ℕ} → None ≡ Some j → ⊥
-dash_not_to e = absurd (let z : ◌≡◌ {A = ℕ} 0 1 = cc in omega arith)
-
 -- a line that names another is there
 pub names_inside : (lines : List Line) (i : ℕ) {s : Side} {j : ℕ} → Names lines i s j → i < length lines
-names_inside [] i {s = first} n = absurd (dash_not_to n.names)
-names_inside [] i {s = next} n = absurd (dash_not_to n.names)
+names_inside [] i {s = first} n = let e = n.names in cc
+names_inside [] i {s = next} n = let e = n.names in cc
 names_inside (l ∷ lines) zero n = omega arith
 names_inside (l ∷ lines) (suc i) {s} {j} n =
     let m : Names lines i s j = record { names = n.names } in

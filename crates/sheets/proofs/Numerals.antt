@@ -108,7 +108,7 @@ no_dash (x ∷ s) {l} {rest} e = at (eqb x 45) refl
     at : (b : Bool) → eqb x 45 ≡ b → cond {A = Taken ℕ} b (taken 45 s) nothing ≡ nothing
     at true h =
         let n : to_in (45 ∷ s) ≡ taken l rest = subst (λ (y : ℕ). to_in (y ∷ s) ≡ taken l rest) (eqb-true x 45 h) e in
-        absurd (let z : ◌≡◌ {A = ℕ} 0 1 = cc in omega arith)
+        cc
     at false h = refl
 
 pub link_read : (l : Link) (rest : List ℕ) → Linkable l → NoDigit rest → link_in (written_link l ++ rest) ≡ taken l rest

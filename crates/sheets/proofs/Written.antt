@@ -51,7 +51,7 @@ name_taken s n rest e =
         let q : m ≡ n = cc in
         let z : r ≡ rest = cc in
         (subst (λ (j : ℕ). j ≤ 15) q (leb-true m 15 h), cc)
-    at m r w false h p = absurd (let z : ◌≡◌ {A = ℕ} 0 1 = cc in omega arith)
+    at m r w false h p = cc
 
 both : (l : Line) → Linkable l.first → Linkable l.next → (s : Side) → Linkable (link s l)
 both l f g first = f

@@ -32,6 +32,7 @@ fn wrong_link(link: Option<u16>, i: usize, n: usize) -> bool
 }
 
 // Whether line j is named never or more than once. The count ends at the second name, so it can't overflow.
+#[tactic(auto, using(crate::proofs::Counting::times_next, crate::proofs::Counting::times_end))]
 fn misnamed(lines: &[Line], j: usize) -> bool
     ensures { result ≡ not (eqb (times_named j lines.now) 1) }
 {

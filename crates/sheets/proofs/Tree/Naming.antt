@@ -5,7 +5,7 @@ use native.Mathlib.Decide.{dec_lt, ℕ_discrete}
 use native.Mathlib.Omega.{arith}
 use mathlib.Core.List.{List}
 use mathlib.Core.Logic.Dec
-use mathlib.Core.Path.{◌≡◌, refl, sym, ◌∙◌, ap}
+use mathlib.Core.Path.{◌≡◌, refl, ◌∙◌, ap}
 use lib.ListN.{length}
 use Rattle.meaning.proofs.Sides.{sides}
 use Rattle.meaning.specs.Table.{Side, first, next}
@@ -14,14 +14,11 @@ use Rattle.sheets.specs.Lines.{Link, link, line_at}
 use Rattle.sheets.specs.Links.{Names, not_greater, not_there, never_named, named_by_two, named_twice, FaultFree}
 use Rattle.sheets.specs.declared.Line.{Line}
 use Rattle.std.specs.Prelude.{None, Some}
-use Rattle.sheets.proofs.Named.{dash_not_to, names_inside}
-
-one_line : {j k : ℕ} → Some j ≡ Some k → j ≡ k
-one_line e = cc
+use Rattle.sheets.proofs.Named.{names_inside}
 
 module _ {lines : List Line} where
   pub names_one : {i j k : ℕ} {s : Side} → Names lines i s j → Names lines i s k → j ≡ k
-  names_one a b = one_line (sym a.names ∙ b.names)
+  names_one a b = cc (a.names, b.names)
 
   pub namer_there : {i j : ℕ} {s : Side} → Names lines i s j → i < length lines
   namer_there {i} a = names_inside lines i a
@@ -30,8 +27,8 @@ module _ {lines : List Line} where
   names_dec i s j = at (link s (line_at lines i)) refl
     where
       at : (l : Link) → link s (line_at lines i) ≡ l → Dec (Names lines i s j)
-      at None e = no (λ a. dash_not_to (sym e ∙ a.names))
-      at (Some k) e = Dec.of_iff (λ (q : k ≡ j). record { names = e ∙ ap Some q }, λ a. one_line (sym e ∙ a.names)) (ℕ_discrete k j)
+      at None e = no (λ a. cc (e, a.names))
+      at (Some k) e = Dec.of_iff (λ (q : k ≡ j). record { names = e ∙ ap Some q }, λ a. cc (e, a.names)) (ℕ_discrete k j)
 
 module _ {lines : List Line} (free : FaultFree lines) where
   pub names_greater : {i j : ℕ} {s : Side} → Names lines i s j → i < j

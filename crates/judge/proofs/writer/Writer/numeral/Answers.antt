@@ -4,15 +4,6 @@ use Rattle.judge.proofs.Puts.{wrote_both}
 use Rattle.judge.proofs.Verdicts.{numeral_digits, numeral_room}
 use Rattle.judge.proofs.writer.Writer.numeral.Goals as goal
 
-pub digit_from-requires : goal.digit_from-requires
-digit_from-requires c = (omega arith, omega (arith, numeral_room c.args.i c.requires.0))
-
-pub digit_from-requires-2 : goal.digit_from-requires-2
-digit_from-requires-2 c = (omega arith, omega (arith, numeral_room c.args.i c.requires.0))
-
-pub digit-requires : goal.digit-requires
-digit-requires c = (omega arith, omega (arith, numeral_room c.args.i c.requires.0))
-
 pub returns : goal.returns
 returns c =
     let room = numeral_room c.args.i c.requires.0 in
