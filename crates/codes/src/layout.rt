@@ -67,6 +67,7 @@ impl<'a> Layout<'a> {
         ASKED
     }
 
+    // Bit 0 is the lowest, and so the question goes first.
     fn pack(&self, truths: &[bool]) -> usize
         ensures { result ≡ sight_by self.now.looks.rows.now self.now.looks.look.now self.now.looks.parts.m truths.now }
     {

@@ -7,7 +7,7 @@ ghost use Rattle.counts.specs.Counts.{is_look, Places, LookRows};
 
 use table::{Row, Table};
 
-// N of 01's section 4: one more than the largest name mentioned, in used rows and in others, and 1 if there is none.
+// N: one more than the largest name mentioned, in used rows and in others, and 1 if there is none.
 #[tactic(auto, using(crate::proofs::Laws::names_next), unfolding(meaning::specs::Table::names))]
 pub fn names_of(rows: &[Row]) -> usize
     ensures { (result ≡ names (table_in rows.now)) × (result ≤ 256) }
@@ -29,7 +29,7 @@ fn mentioned_in(row: Row) -> usize
     }
 }
 
-// m of 01's section 4: how many `go` rows there are.
+// m: how many `go` rows there are.
 #[tactic(auto, using(crate::proofs::Laws::looks_counted))]
 pub fn looks_of(rows: &[Row]) -> usize
     ensures { (result ≡ looks (table_in rows.now)) × (result ≤ length rows.now) }
@@ -51,7 +51,8 @@ pub fn size_of(rows: &[Row]) -> usize
     names_of(rows) << looks_of(rows)
 }
 
-// The bit place of each row, if it is a `go` row: how many `go` rows stand before it.
+// The bit place of each row, if it is a `go` row: how many `go` rows stand before it. The promise says what stands at every place, also beyond the
+// last row, and so the whole array is given.
 pub fn places_of(rows: &[Row]) -> [u8; Table::ROWS]
     requires { length rows.now ≤ row_limit }
     ensures { Places (table_in rows.now) result }
@@ -67,8 +68,7 @@ pub fn places_of(rows: &[Row]) -> [u8; Table::ROWS]
     places
 }
 
-// The rows of the bits: where each `go` row stands, in order. The promise says what stands at every place, also beyond the last `go` row, and so
-// the whole array is given.
+// The rows of the bits: where each `go` row stands, in order. This promise too says what stands at every place.
 pub fn look_rows_of(rows: &[Row]) -> [u8; Table::ROWS]
     requires { length rows.now ≤ row_limit }
     ensures { LookRows (table_in rows.now) result }
