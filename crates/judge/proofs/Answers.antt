@@ -20,7 +20,6 @@ use Rattle.sheets.specs.Tree.{SheetTree}
 use Rattle.sheets.specs.declared.Line.{Line}
 use Rattle.sheets.specs.declared.Sheet.{Sheet}
 use Rattle.sheets.proofs.Accepted.{some_line}
-use Rattle.sheets.proofs.Loading.{loads_lines, loads_refusal}
 use Rattle.sheets.proofs.OneAnswer.{small}
 use Rattle.sheets.proofs.Tree.Sheet.{sheet_tree}
 use Rattle.judge.specs.Judging.{judged_of, Small, JudgesLines, by_sheet, by_lines, Judges, by_table, admitted}
@@ -43,20 +42,20 @@ grown text lines l = let f = accepted l in sheet_tree lines f.some f.free
 module _ {text sheet : List ℕ} {l : Loaded} {s : Sheet} (x : Answered false text (Ok l)) (y : Links.Loaded sheet (Ok s)) where
   pub ready : Ready (rows_of l.table) (lines_of s)
   ready =
-      let f = accepted (loads_lines y) in
+      let f = accepted y.loads in
       record {
         admissible = ((one_admission text).admitted (rows_of l.table) x.takes).0;
         some_line = f.some;
-        few_lines = omega (arith, y.says.counted);
+        few_lines = omega (arith, y.counted);
         fault_free = f.free;
       }
 
   pub judges_both : {old new : List ℕ} {a : Judged} → JudgesLines (table_of l.table) (lines_of s) old new a → Judges text sheet old new a
-  judges_both j = admitted x.takes (by_lines (loads_lines y) j)
+  judges_both j = admitted x.takes (by_lines y.loads j)
 
 module _ {text : List ℕ} (sheet old : List ℕ) where
   pub refuses_table : {r : Refusal} → Answered false text (Err r) → Judges text sheet old old (judged_of (Err r)) × Small (Err r)
   refuses_table {r} x = (by_table x.takes (refuses r), omega (arith, ((one_admission text).small (number_of r) (place_of r) x.takes).2))
 
   pub refuses_sheet : {l : Loaded} {r : Refusal} → Answered false text (Ok l) → Links.Loaded sheet (Err r) → Judges text sheet old old (judged_of (Err r)) × Small (Err r)
-  refuses_sheet {l} {r} x y = let k = loads_refusal y in (admitted x.takes (by_sheet k (refuses r)), (small k).1)
+  refuses_sheet {l} {r} x y = (admitted x.takes (by_sheet y.loads (refuses r)), (small y.loads).1)

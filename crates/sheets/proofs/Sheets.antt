@@ -1,18 +1,19 @@
 -- Sheets as a kind of line, and what reading a sheet's text gives as one of the ends of a scan.
-use mathlib.Core.Path.{◌≡◌, refl, sym}
+use mathlib.Core.Path.{◌≡◌, refl, subst}
 use mathlib.Core.List.{List, [], ◌∷◌, ◌++◌}
-use Prim.Native.Nat.{ℕ, ◌≤◌}
-use lib.ListN.{length}
+use Prim.Native.Nat.{ℕ}
+use native.Mathlib.Omega.{arith}
 use Rattle.std.specs.Prelude.{Ok, Err}
-use Rattle.reader.specs.Parts.{nothing}
+use Rattle.reader.specs.Parts.{taken, nothing}
+use Rattle.reader.specs.Reading.{Begins}
 use Rattle.reader.proofs.Scan.{Kind, reading}
 use Rattle.reader.proofs.Settled as settled
 use Rattle.reader.proofs.Settled.{Ends, ends}
+use Rattle.reader.proofs.Turns.{Turn, empty_text, first_turn, at_end, at_full, at_wrong, next_turn}
 use Rattle.sheets.specs.declared.Line.{Line}
 use Rattle.sheets.specs.declared.Sheet.{Sheet}
-use Rattle.table.specs.Refusals.{number_of, place_of}
-use Rattle.table.specs.declared.refusal.Refusal.{Refusal}
-use Rattle.sheets.specs.Lines.{line_limit, Right, lines_of}
+use Rattle.table.specs.declared.refusal.Refusal.TheVariants.{MalformedLine}
+use Rattle.sheets.specs.Lines.{line_limit, Right, lines_of, Extended}
 use Rattle.sheets.specs.Written.{written, written_lines}
 use Rattle.sheets.specs.Parts.{line_in}
 use Rattle.sheets.specs.Reading.{Reading, lines_read, refused, AllRight, none, more, Reads, empty, malformed, too_many, read, Answers}
@@ -83,8 +84,26 @@ only r = settled.only sheets (ends_of r)
 
 -- the answers of `read_text`
 module _ {text : List ℕ} where
-  pub refuses : (r : Refusal) → reading sheets text ≡ refused (number_of r) (place_of r) → Answers text (Err r)
-  refuses r e = record { answer = reading sheets text; reads = reads text; says = record { gives = sym e; counted = tt } }
+  answers : {a : Reading} → reading sheets text ≡ a → Reads text a
+  answers e = subst (λ (a : Reading). Reads text a) e (reads text)
 
-  pub accepts : (s : Sheet) → s.lines.len ≡ length (lines_of s) → s.lines.len ≤ line_limit → reading sheets text ≡ lines_read (lines_of s) → Answers text (Ok s)
-  accepts s c h e = record { answer = reading sheets text; reads = reads text; says = record { gives = sym e; counted = (c, h) } }
+  pub empty_refused : text ≡ [] → Answers text (Err (MalformedLine 0))
+  empty_refused e = record { reads = answers (empty_text sheets e); counted = tt }
+
+  module _ {n : ℕ} {lines : List Line} {rest : List ℕ} (u : Turn sheets text n lines rest) where
+    pub further_refused : Begins rest → n ≡ line_limit → Answers text (Err (MalformedLine line_limit))
+    further_refused h e = record { reads = answers (at_full u h e); counted = tt }
+
+    pub form_refused : Begins rest → (n ≡ line_limit → ⊥) → line_in rest ≡ nothing → Answers text (Err (MalformedLine n))
+    form_refused h m e = record { reads = answers (at_wrong u h m e); counted = tt }
+
+  -- the loop has the sheet whose lines they are
+  module _ {s : Sheet} {rest : List ℕ} (u : Turn sheets text s.lines.len (lines_of s) rest) where
+    pub line_added : {l : Line} {next : List ℕ} {longer : Sheet} → Extended s l longer → Begins rest → (s.lines.len ≡ line_limit → ⊥) → line_in rest ≡ taken l next → Turn sheets text longer.lines.len (lines_of longer) next
+    line_added f h m e = next_turn u h m e (f.more (omega (arith, u.few, m))) tt
+
+    pub sheet_read : rest ≡ [] → Answers text (Ok s)
+    sheet_read e = record { reads = answers (at_end u e); counted = (u.counted, u.few) }
+
+-- what the proof of `read_text` uses
+pub ruleset steps = (first_turn, empty_refused, further_refused, form_refused, sheet_read)

@@ -1,8 +1,8 @@
 -- 02, C-11, refusal 10: the lines that a sheet's fields name.
-use Rattle.std.specs.Prelude.{ℕ, ◌<◌, ◌≤◌, List, ◌≡◌, length, Some, Result}
+use Rattle.std.specs.Prelude.{ℕ, ◌<◌, ◌≤◌, List, ◌≡◌, length, Some, Result, IfOk}
 use Rattle.meaning.specs.Table.{Side}
 use Rattle.sheets.specs.Lines.{link, line_at}
-use Rattle.sheets.specs.Reading.{Reading, lines_read, refused, Reads, Gives}
+use Rattle.sheets.specs.Reading.{Reading, lines_read, refused, Reads, reading_of, Counted}
 use Rattle.sheets.specs.declared.Line.{Line}
 use Rattle.sheets.specs.declared.Sheet.{Sheet}
 use Rattle.table.specs.declared.refusal.Refusal.{Refusal}
@@ -36,9 +36,8 @@ pub data Loads (text : List ℕ) : Reading → Type 0 where
 
 -- What `load` promises for every text.
 pub record Loaded (text : List ℕ) (r : Result Sheet Refusal) : Type 0 where
-  pub answer : Reading
-  pub loads : Loads text answer
-  pub says : Gives r answer
+  pub loads : Loads text (reading_of r)
+  pub counted : IfOk r Counted
 
 -- Each text has an answer, and no other.
 pub record OneAnswer (text : List ℕ) : Type 0 where

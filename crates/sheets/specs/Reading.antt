@@ -44,14 +44,10 @@ reading_of (Err r) = refused (number_of r) (place_of r)
 abbrev pub Counted : Sheet → Type 0
 Counted s = (s.lines.len ≡ length (lines_of s)) × (s.lines.len ≤ line_limit)
 
-pub record Gives (r : Result Sheet Refusal) (a : Reading) : Type 0 where
-  pub gives : reading_of r ≡ a
-  pub counted : IfOk r Counted
-
+-- All that reading gives back.
 pub record Answers (text : List ℕ) (r : Result Sheet Refusal) : Type 0 where
-  pub answer : Reading
-  pub reads : Reads text answer
-  pub says : Gives r answer
+  pub reads : Reads text (reading_of r)
+  pub counted : IfOk r Counted
 
 -- Every text has a reading, and no other.
 pub record OneReading (text : List ℕ) : Type 0 where

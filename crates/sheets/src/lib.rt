@@ -64,6 +64,7 @@ impl Sheet {
 }
 
 // First 9, then 10: a text that is refused with 9 has no lines, so none of them is faulty.
+#[tactic(auto, using(crate::proofs::Loading::steps))]
 pub fn load(text: &[u8]) -> Result<Sheet, Refusal>
     ensures { Loaded text.now result }
 {

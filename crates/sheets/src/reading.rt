@@ -6,6 +6,7 @@ use reader::rest::Rest;
 use table::refusal::Refusal;
 
 // Each line is read where the one before it ended; the first faulty one ends the reading.
+#[tactic(auto, using(crate::proofs::Sheets::steps))]
 pub(crate) fn read_text(text: &[u8]) -> Result<Sheet, Refusal>
     ensures { Answers text.now result }
 {
