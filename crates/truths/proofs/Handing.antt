@@ -30,37 +30,37 @@ module _ {rows : Table} {spots : List Spot} where
       none : (p i : ℕ) → Taken t.queue.items 0 p i → FoundAt s.truth p i
       none p i y = ∥∥₁_elim y (found_prop s.truth p i) (λ k. absurd (omega (arith, k.1)))
 
-  module _ (s t : Found) (head : ℕ) (left : head < s.queue.len) (handed : Handled rows spots (Resting rows spots (get_or s.queue.items head no_cell)) s t) where
+  module _ (s t : Found) (head : ℕ) (left : head < s.queue.len) (c : Cell) (this : get_or s.queue.items head no_cell ≡ c) (handed : Handled rows spots (Resting rows spots c) s t) where
     taken_found : (p i : ℕ) → Taken t.queue.items (head + 1) p i → FoundAt s.truth p i
     taken_found p i x = ∥∥₁_elim x (found_prop s.truth p i) (λ k.
         let l : k.0 < s.queue.len = omega (arith, k.1) in
         let e = sym (handed.grown.kept k.0 l) ∙ k.2 in
         rw e at (s.queued.entered k.0 l))
 
-    taken_before : (p i : ℕ) → (p ≡ (get_or s.queue.items head no_cell).line → i ≡ (get_or s.queue.items head no_cell).row → ⊥) → Taken t.queue.items (head + 1) p i → Taken s.queue.items head p i
+    taken_before : (p i : ℕ) → (p ≡ c.line → i ≡ c.row → ⊥) → Taken t.queue.items (head + 1) p i → Taken s.queue.items head p i
     taken_before p i other x = ∥∥₁_map x (λ k.
         let l : k.0 < s.queue.len = omega (arith, k.1) in
         let h : k.0 ≤ head = omega (arith, k.1) in
         let e : get_or s.queue.items k.0 no_cell ≡ record { line = p; row = i } = sym (handed.grown.kept k.0 l) ∙ k.2 in
         ⊎_elim
-        (λ (q : k.0 ≡ head). absurd (let f = rw q at (sym e) in other (ap (λ (c : Cell). c.line) f) (ap (λ (c : Cell). c.row) f)))
+        (λ (q : k.0 ≡ head). absurd (let f = rw (q, this) at (sym e) in other (ap (λ (c : Cell). c.line) f) (ap (λ (c : Cell). c.row) f)))
         (λ (b : k.0 < head). (k.0, b, e))
         (eq-or-lt_of_le h))
 
-    taken_new : (p i : ℕ) → Taken t.queue.items (head + 1) p i → Taken s.queue.items head p i ⊎ ((p ≡ (get_or s.queue.items head no_cell).line) × (i ≡ (get_or s.queue.items head no_cell).row))
-    taken_new p i x = at (ℕ_discrete p (get_or s.queue.items head no_cell).line) (ℕ_discrete i (get_or s.queue.items head no_cell).row)
+    taken_new : (p i : ℕ) → Taken t.queue.items (head + 1) p i → Taken s.queue.items head p i ⊎ ((p ≡ c.line) × (i ≡ c.row))
+    taken_new p i x = at (ℕ_discrete p c.line) (ℕ_discrete i c.row)
       where
-        at : Dec (p ≡ (get_or s.queue.items head no_cell).line) → Dec (i ≡ (get_or s.queue.items head no_cell).row) → Taken s.queue.items head p i ⊎ ((p ≡ (get_or s.queue.items head no_cell).line) × (i ≡ (get_or s.queue.items head no_cell).row))
+        at : Dec (p ≡ c.line) → Dec (i ≡ c.row) → Taken s.queue.items head p i ⊎ ((p ≡ c.line) × (i ≡ c.row))
         at (yes a) (yes b) = inr (a, b)
         at (yes a) (no b) = inl (taken_before p i (λ e f. b f) x)
         at (no a) b = inl (taken_before p i (λ e f. a e) x)
 
     pub handed_on : ClosedBy rows spots (Taken s.queue.items head) s.truth → ClosedBy rows spots (Taken t.queue.items (head + 1)) t.truth
-    handed_on c = record {
+    handed_on done = record {
       closed = λ p i l m x. ⊎_elim
-          (λ y. handed.grown.still p i (c.closed p i l m y))
+          (λ y. handed.grown.still p i (done.closed p i l m y))
           (λ y. handed.settled p i y (l, m, says_more (Taken t.queue.items (head + 1)) (FoundAt s.truth) taken_found (spot_at spots p) (row_at rows i) p x))
-          (says_new spots (Taken s.queue.items head) (Taken t.queue.items (head + 1)) (get_or s.queue.items head no_cell).line (get_or s.queue.items head no_cell).row taken_new (row_at rows i) p x);
+          (says_new spots (Taken s.queue.items head) (Taken t.queue.items (head + 1)) c.line c.row taken_new (row_at rows i) p x);
     }
 
   module _ (s : Found) (head : ℕ) (few : length rows ≤ row_limit) (laid : Laid spots) (range : InRange rows) (right : AllTrue rows spots s.truth) (done : s.queue.len ≤ head) (c : ClosedBy rows spots (Taken s.queue.items head) s.truth) where

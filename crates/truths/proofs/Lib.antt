@@ -1,3 +1,4 @@
+pub mod Same
 pub mod Putting
 pub mod Says
 pub mod Handled

@@ -1,5 +1,5 @@
 -- The spots while they are filled, one field of one line after another.
-use Rattle.std.proofs.Common.{ℕ, zero, suc, ◌+◌, ◌*◌, ◌<◌, ◌≤◌, List, Option, Some, None, ⊎_elim, ◌≡◌, refl, ap, sym, ◌∙◌, length, set, replicate, take, arith}
+use Rattle.std.proofs.Common.{ℕ, ◌+◌, ◌*◌, ◌<◌, ◌≤◌, List, Option, Some, None, ⊎_elim, ◌≡◌, refl, ap, sym, ◌∙◌, length, set, replicate, take, arith}
 use Rattle.std.proofs.Math.Decide.{dec_lt}
 use Rattle.std.proofs.Math.Nat.{eq-or-lt_of_le}
 use Rattle.std.proofs.lemmas.List.{length-set, length-replicate, length-take-le, get_or-take, get_or_past}
@@ -14,6 +14,7 @@ use Rattle.truths.specs.Placing.{Within, with_name, joined, linked, placed}
 use Rattle.truths.specs.declared.spots.Spot.{Spot}
 use Rattle.truths.proofs.Inside.{near_inside}
 use Rattle.truths.proofs.Stores.{Stored, here, elsewhere, store, names_stay, named, named_other, nears_stay}
+use Rattle.truths.proofs.Same.{all_same}
 
 -- the fields are numbered from 1 in the order of storing, two for each line
 abbrev turn : Side → ℕ → ℕ
@@ -50,11 +51,6 @@ by_there : {lines : List Line} {d : Dir} {p q : ℕ} → Near lines d p q → (0
 by_there (below_it {s = s} {i = i} n) = (omega (arith, turned s i), omega (arith, turned s i, namer_there n))
 by_there (above_it {s = s} {j = j} n) = (omega (arith, turned s j), omega (arith, turned s j, namer_there n))
 
-none_alone : (n p : ℕ) → spot_at (replicate n alone) p ≡ alone
-none_alone zero p = refl
-none_alone (suc n) zero = refl
-none_alone (suc n) (suc p) = none_alone n p
-
 alone_none : (d : Dir) → near alone d ≡ None
 alone_none (down first) = refl
 alone_none (down next) = refl
@@ -66,7 +62,7 @@ module _ {rows : Table} {lines : List Line} where
   placing_none = record {
     long = length-replicate line_limit alone;
     names = λ p h. absurd (omega arith);
-    nears = λ d p. rw (ap (λ s. near s d) (none_alone line_limit p) ∙ alone_none d) (so_none (λ q n b. omega (arith, by_there n)));
+    nears = λ d p. rw (ap (λ s. near s d) (all_same line_limit p alone) ∙ alone_none d) (so_none (λ q n b. omega (arith, by_there n)));
   }
 
   -- the name of one line more

@@ -11,18 +11,14 @@ use Rattle.sheets.specs.Lines.{line_limit}
 use Rattle.truths.specs.Cells.{cell_at}
 use Rattle.truths.specs.Found.{FoundAt, Queued, no_cell}
 use Rattle.truths.specs.declared.cell.Cell.{Cell}
-
-all_false : (n k : ℕ) → get_or (replicate n false) k false ≡ false
-all_false zero k = refl
-all_false (suc n) zero = refl
-all_false (suc n) (suc k) = all_false n k
+use Rattle.truths.proofs.Same.{all_same}
 
 none_counted : (n : ℕ) → count_by (λ (found : Bool). found) (replicate n false) ≡ 0
 none_counted zero = refl
 none_counted (suc n) = none_counted n
 
 pub none_found : (n p i : ℕ) → FoundAt (replicate n false) p i → ⊥
-none_found n p i f = cc (all_false n (cell_at p i), f.1)
+none_found n p i f = cc (all_same n (cell_at p i) false, f.1)
 
 pub nothing_found : (n : ℕ) (queue : List Cell) → Queued (replicate n false) queue 0
 nothing_found n queue = record {

@@ -3,7 +3,7 @@ use Rattle.std.proofs.Common.{ℕ, Bool, true, false, ◌+◌, ◌<◌, ◌≤�
 use Rattle.std.proofs.Math.Nat.{eq-or-lt_of_le}
 use Rattle.meaning.specs.Table.{Dir, converse, Table, row_at, go_row}
 use Rattle.truths.specs.Spots.{near_at, Laid}
-use Rattle.truths.specs.Search.{Rests, by_name, by_look, RestsAt, Handled, AnyCell, OnLine, Only, Resting}
+use Rattle.truths.specs.Search.{Rests, by_name, by_look, RestsAt, Handled, OnLine, Only, Resting}
 use Rattle.truths.specs.declared.cell.Cell.{Cell}
 use Rattle.truths.specs.declared.found.Found.{Found}
 use Rattle.truths.specs.declared.spots.Spot.{Spot}
@@ -26,16 +26,6 @@ RestingBelow rows spots c n p i = (i < n) × Resting rows spots c p i
 module _ {rows : Table} {spots : List Spot} {s t : Found} where
   pub line_more : {u : Found} {n : ℕ} → Handled rows spots (LinesBelow n) s t → Handled rows spots (OnLine n) t u → Handled rows spots (LinesBelow (n + 1)) s u
   line_more {n = n} a b = handled_then a b (λ p i h. ⊎_elim (λ e. inr e) (λ l. inl l) (at_or_below p n h))
-
-  pub lines_all : {n : ℕ} → length spots ≤ n → Handled rows spots (LinesBelow n) s t → Handled rows spots AnyCell s t
-  lines_all h a = handled_as a (λ p i l m k. omega arith)
-
-  module _ {line : ℕ} where
-    pub row_more : {u : Found} {n : ℕ} → Handled rows spots (RowsBelow line n) s t → Handled rows spots (Only (record { line = line; row = n })) t u → Handled rows spots (RowsBelow line (n + 1)) s u
-    row_more {n = n} a b = handled_then a b (λ p i h. ⊎_elim (λ e. inr (h.0, e)) (λ l. inl (h.0, l)) (at_or_below i n h.1))
-
-    pub rows_all : {n : ℕ} → length rows ≤ n → Handled rows spots (RowsBelow line n) s t → Handled rows spots (OnLine line) s t
-    rows_all h a = handled_as a (λ p i l m e. (e, omega arith))
 
   module _ {c : Cell} where
     pub rested_more : {u : Found} {n q : ℕ} → RestsAt spots (row_at rows n) c (Some q) → Handled rows spots (RestingBelow rows spots c n) s t → Handled rows spots (Only (record { line = q; row = n })) t u

@@ -15,6 +15,7 @@ use table::direction::Direction;
 
 impl Asked<'_> {
     // All that is true is found, where nothing else was.
+    #[tactic(auto, using(crate::proofs::Handing::all_settled, counts::proofs::Laws::table_long))]
     pub(crate) fn settle(&self, found: &mut Found)
         ensures { AllTrue (table_in self.now.rows.now) self.now.spots.now found.old.truth → Settled (table_in self.now.rows.now) self.now.spots.now found.new.truth }
     {
@@ -57,6 +58,7 @@ impl Asked<'_> {
     }
 
     // A cell that is true by what is found is found.
+    #[tactic(auto, using(crate::proofs::Handled::handled_new, counts::proofs::Laws::table_long))]
     fn visit(&self, found: &mut Found, cell: Cell)
         ensures { Handled (table_in self.now.rows.now) self.now.spots.now (Only cell) found.old found.new }
     {

@@ -57,6 +57,7 @@ impl Spot {
 }
 
 // One for each line, and none of any meaning after them.
+#[tactic(auto, using(crate::proofs::Placing::line_more, crate::proofs::Inside::line_within))]
 pub(crate) fn spots_of(rows: &[Row], lines: &[Line]) -> [Spot; Sheet::LINES]
     requires { (length lines.now ≤ line_limit) × FaultFree lines.now }
     ensures { Spots (table_in rows.now) lines.now (take (length lines.now) result) }
