@@ -32,9 +32,9 @@ pub fn admit(text: &[u8]) -> Result<Loaded, Refusal>
     ensures answered { Answered false text.now result }
     ensures order { IfOk result (λ l. Ordered (table_of l.table) l.order) }
 {
-    let table = reader::read_text(text)?;
-    match loops::check(table) {
-        Ok(order) | Err(Fault::Large(order)) => Ok(Loaded { table, order }),
+    let read = reader::read_text(text)?;
+    match loops::check(read) {
+        Ok(order) | Err(Fault::Large(order)) => Ok(Loaded { table: read, order }),
         Err(Fault::Missing(i)) => Err(Refusal::Missing(i)),
         Err(Fault::Looping(i)) => Err(Refusal::Looping(i)),
     }
