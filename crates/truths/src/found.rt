@@ -23,10 +23,7 @@ impl Found {
     {
         Found {
             truth: [false; CELLS],
-            queue: AtMost {
-                items: [Cell { line: 0, row: 0 }; CELLS],
-                len: 0,
-            },
+            queue: AtMost::new(Cell { line: 0, row: 0 }),
         }
     }
 
