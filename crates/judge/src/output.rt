@@ -1,5 +1,5 @@
 // What is written of a judged sheet: how long it is, and its lines into lent bytes.
-ghost use Rattle.std.specs.Prelude.{◌≡◌, ◌<◌, ◌≤◌, length};
+ghost use Rattle.std.specs.Prelude.{◌≡◌, ◌≤◌, length};
 ghost use Rattle.sheets.specs.Lines.{line_limit};
 ghost use Rattle.judge.specs.Output.{verdict_lines};
 ghost use Rattle.judge.specs.Writing.{digits_of, OutputLength, Written, output_limit};

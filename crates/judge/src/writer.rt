@@ -1,5 +1,5 @@
 // Lent bytes that are filled from the front.
-ghost use Rattle.std.specs.Prelude.{◌≡◌, cond, [], ◌∷◌, ◌+◌, ◌<◌, ◌≤◌, length};
+ghost use Rattle.std.specs.Prelude.{◌≡◌, cond, [], ◌∷◌, ◌+◌, ◌<◌};
 ghost use Rattle.sheets.specs.Written.{numeral};
 ghost use Rattle.judge.specs.Output.{verdict_line};
 ghost use Rattle.judge.specs.Writing.{digit_from, Room, Wrote};

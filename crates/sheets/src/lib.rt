@@ -5,7 +5,7 @@ mod lines;
 mod links;
 mod reading;
 
-ghost use Rattle.std.specs.Prelude.{◌≡◌, [], ◌<◌};
+ghost use Rattle.std.specs.Prelude.{◌≡◌, []};
 ghost use Rattle.sheets.specs.Links.{Loaded};
 ghost use Rattle.sheets.specs.Lines.{lines_of, Extended};
 
