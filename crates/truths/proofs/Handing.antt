@@ -1,9 +1,8 @@
 -- Every cell taken from the queue is handed on, so at the queue's end nothing more is true by what is found; and then all that is true is found.
-use Rattle.std.proofs.Common.{ℕ, ◌+◌, ◌<◌, ◌≤◌, Bool, List, ◌⊎◌, inl, inr, ⊎_elim, ◌≡◌, refl, sym, ◌∙◌, ap, length, get_or, arith}
+use Rattle.std.proofs.Common.{ℕ, ◌+◌, ◌<◌, ◌≤◌, Bool, List, ◌⊎◌, inl, inr, ⊎_elim, ◌≡◌, refl, sym, ◌∙◌, length, get_or, arith}
 use Rattle.std.proofs.Math.Logic.{∥∥₁_elim, ∥∥₁_map}
 use Rattle.std.proofs.Props.{props}
 use Rattle.std.proofs.Math.Decide.{ℕ_discrete}
-use Rattle.std.proofs.Math.Nat.{eq-or-lt_of_le}
 use Rattle.meaning.specs.Table.{Table, Row, row_at, row_limit, InRange, any_left, any_right, all_left, all_right}
 use Rattle.truths.specs.Spots.{spot_at, Laid, HoldsAt, at_yes, at_is, at_isnot, at_left, at_right, at_both, at_go, at_stop}
 use Rattle.truths.specs.Found.{FoundAt, Taken, no_cell}
@@ -40,12 +39,8 @@ module _ {rows : Table} {spots : List Spot} where
     taken_before : (p i : ℕ) → (p ≡ c.line → i ≡ c.row → ⊥) → Taken t.queue.items (head + 1) p i → Taken s.queue.items head p i
     taken_before p i other x = ∥∥₁_map x (λ k.
         let l : k.0 < s.queue.len = omega (arith, k.1) in
-        let h : k.0 ≤ head = omega (arith, k.1) in
         let e : get_or s.queue.items k.0 no_cell ≡ record { line = p; row = i } = sym (handed.grown.kept k.0 l) ∙ k.2 in
-        ⊎_elim
-        (λ (q : k.0 ≡ head). absurd (let f = rw (q, this) at (sym e) in other (ap (λ (c : Cell). c.line) f) (ap (λ (c : Cell). c.row) f)))
-        (λ (b : k.0 < head). (k.0, b, e))
-        (eq-or-lt_of_le h))
+        (k.0, grind (arith, this, other), e))
 
     taken_new : (p i : ℕ) → Taken t.queue.items (head + 1) p i → Taken s.queue.items head p i ⊎ ((p ≡ c.line) × (i ≡ c.row))
     taken_new p i x = at (ℕ_discrete p c.line) (ℕ_discrete i c.row)

@@ -72,10 +72,7 @@ module _ {rows : Table} {lines : List Line} where
       let inside : u < length spots = omega (arith, k.long) in
       record {
         long = simp length-set k.long;
-        names = λ p g. ⊎_elim
-            (λ (e : p ≡ u). rw e (named spots u v inside))
-            (λ (b : p < u). named_other spots u v inside p (λ e. omega arith) ∙ k.names p b)
-            (eq-or-lt_of_le (omega arith));
+        names = λ p g. grind (arith, named spots u v inside, named_other spots u v inside p, k.names p);
         nears = λ d p. rw (nears_stay spots u v inside d p) (k.nears d p);
       }
 

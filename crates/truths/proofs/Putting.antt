@@ -1,11 +1,11 @@
 -- One cell more: there is room for it in the queue, it is found, and what was found stays.
-use Rattle.std.proofs.Common.{ℕ, zero, suc, ⊎_elim, ◌+◌, ◌*◌, ◌<◌, ◌≤◌, Bool, true, false, cond, List, ◌≡◌, refl, sym, ◌∙◌, length, get_or, set, replicate, ◌⊎◌, inl, inr, arith}
+use Rattle.std.proofs.Common.{ℕ, zero, suc, ⊎_elim, ◌+◌, ◌*◌, ◌<◌, Bool, true, false, cond, List, ◌≡◌, refl, ◌∙◌, length, get_or, set, replicate, ◌⊎◌, inl, inr, arith}
 use Rattle.std.proofs.Math.Logic.{∥∥₁_map}
 use Rattle.std.proofs.Math.Decide.{ℕ_discrete}
-use Rattle.std.proofs.Math.Nat.{eq-or-lt_of_le}
-use Rattle.std.proofs.lemmas.List.{length-set, get_or-set_same, get_or-set_other}
+use Rattle.std.proofs.lemmas.List.{length-set, get_or-set_same}
 use Rattle.std.proofs.lemmas.List.Sums.{sum_by-set, count_by-le-length}
 use Rattle.std.specs.List.{count_by}
+use Rattle.std.proofs.lemmas.Grind.{common_steps, elements}
 use Rattle.meaning.specs.Table.{row_limit}
 use Rattle.sheets.specs.Lines.{line_limit}
 use Rattle.truths.specs.Cells.{cell_at}
@@ -33,11 +33,7 @@ module _ (truth : List Bool) (queue : List Cell) (tail : ℕ) (c : Cell) (now : 
   fits = omega arith
 
   was : get_or truth (cell_at c.line c.row) false ≡ false
-  was = at (get_or truth (cell_at c.line c.row) false) refl
-    where
-      at : (b : Bool) → get_or truth (cell_at c.line c.row) false ≡ b → b ≡ false
-      at true e = absurd (unfound (low, e))
-      at false e = refl
+  was = grind (arith, common_steps)
 
   one_more : count_by (λ (found : Bool). found) (set truth (cell_at c.line c.row) true) ≡ tail + 1
   one_more =
@@ -47,41 +43,31 @@ module _ (truth : List Bool) (queue : List Cell) (tail : ℕ) (c : Cell) (now : 
   pub room_left : tail < line_limit * row_limit
   room_left = omega (arith, one_more, count_by-le-length (λ (found : Bool). found) (set truth (cell_at c.line c.row) true), length-set truth (cell_at c.line c.row) true)
 
-  same_place : (p i : ℕ) → i < row_limit → cell_at p i ≡ cell_at c.line c.row → (p ≡ c.line) × (i ≡ c.row)
-  same_place p i h e = (omega arith, omega arith)
-
   marked : get_or (set truth (cell_at c.line c.row) true) (cell_at c.line c.row) false ≡ true
   marked = get_or-set_same truth (cell_at c.line c.row) true false fits
 
   pub found_still : (p i : ℕ) → FoundAt truth p i → FoundAt (set truth (cell_at c.line c.row) true) p i
-  found_still p i f = (f.0, at (ℕ_discrete (cell_at p i) (cell_at c.line c.row)))
-    where
-      at : Dec (cell_at p i ≡ cell_at c.line c.row) → get_or (set truth (cell_at c.line c.row) true) (cell_at p i) false ≡ true
-      at (yes q) = rw q marked
-      at (no n) = get_or-set_other truth (cell_at c.line c.row) (cell_at p i) true false n ∙ f.1
+  found_still p i f = (f.0, grind (arith, elements, f.1, marked))
 
   pub found_then : (p i : ℕ) → FoundAt (set truth (cell_at c.line c.row) true) p i → FoundAt truth p i ⊎ ((p ≡ c.line) × (i ≡ c.row))
   found_then p i f = at (ℕ_discrete (cell_at p i) (cell_at c.line c.row))
     where
       at : Dec (cell_at p i ≡ cell_at c.line c.row) → FoundAt truth p i ⊎ ((p ≡ c.line) × (i ≡ c.row))
-      at (yes q) = inr (same_place p i f.0 q)
-      at (no n) = inl (f.0, sym (get_or-set_other truth (cell_at c.line c.row) (cell_at p i) true false n) ∙ f.1)
+      at (yes q) = inr (omega arith, omega arith)
+      at (no n) = inl (f.0, grind (arith, elements, f.1, n))
 
   module _ (room : tail < length queue) where
     last : get_or (set queue tail c) tail no_cell ≡ c
-    last = get_or-set_same queue tail c no_cell room
+    last = grind (arith, elements)
 
     before : (k : ℕ) → k < tail → get_or (set queue tail c) k no_cell ≡ get_or queue k no_cell
-    before k h = get_or-set_other queue tail k c no_cell (λ e. omega arith)
+    before k h = grind (arith, elements)
 
     pub put : Queued (set truth (cell_at c.line c.row) true) (set queue tail c) (tail + 1)
     put = record {
       counted = one_more;
       few = omega (arith, room_left);
-      entered = λ k h. ⊎_elim
-          (λ (e : k ≡ tail). rw (e, last) (low, marked))
-          (λ (l : k < tail). let f = now.entered k l in rw (before k l) (found_still _ _ f))
-          (eq-or-lt_of_le (let b : k ≤ tail = omega arith in b));
+      entered = λ k h. grind (arith, elements, found_still, now.entered k, marked, low);
       queued = λ p i f. ⊎_elim
           (λ g. ∥∥₁_map (now.queued p i g) (λ x. (x.0, omega (arith, x.1), before x.0 x.1 ∙ x.2)))
           (λ e. ∣ (tail, omega arith, rw (e.0, e.1) last) ∣₁)

@@ -1,18 +1,18 @@
 -- Laws of `Says`: with more that is true a row says no less; what is said by truths is true; and what one truth more adds rests on it.
-use Rattle.std.proofs.Common.{ℕ, ◌||◌, eqb, List, Option, Some, None, ◌⊎◌, inl, inr, ⊎_elim, ◌≡◌, refl, ap, ◌∙◌}
-use borrow.Author.Tests.{eq-eqb}
+use Rattle.std.proofs.Common.{ℕ, ◌||◌, eqb, List, Option, Some, None, ◌⊎◌, inl, inr, ⊎_elim, ◌≡◌, refl, ap, ◌∙◌, arith}
+use Rattle.std.proofs.lemmas.Bool.Decides.{nat_tests}
 use Rattle.meaning.specs.Table.{Table, Row, row_at, yes_row, no_row, is_row, isnot_row, any_row, all_row, go_row, stop_row}
-use Rattle.meaning.proofs.Tests.{Is, or_iff}
+use Rattle.meaning.proofs.Tests.{Is}
 use Rattle.loops.specs.Closing.{refers_to}
 use Rattle.truths.specs.Spots.{spot_at, near, near_at, HoldsAt, at_yes, at_is, at_isnot, at_left, at_right, at_both, at_go, at_stop}
 use Rattle.truths.specs.Search.{AtNear, Says, Rests, by_name, by_look}
 use Rattle.truths.specs.declared.spots.Spot.{Spot}
 
 left_is : (a b j : ℕ) → a ≡ j → Is (eqb a j || eqb b j)
-left_is a b j e = (or_iff (eqb a j) (eqb b j)).1 (inl (eq-eqb a j e))
+left_is a b j e = grind (arith, nat_tests)
 
 right_is : (a b j : ℕ) → b ≡ j → Is (eqb a j || eqb b j)
-right_is a b j e = (or_iff (eqb a j) (eqb b j)).1 (inr (eq-eqb b j e))
+right_is a b j e = grind (arith, nat_tests)
 
 near_more : (P Q : ℕ → Type 0) → ((q : ℕ) → P q → Q q) → (o : Option ℕ) → AtNear P o → AtNear Q o
 near_more P Q f None h = h

@@ -1,7 +1,8 @@
 -- The spots as memory: a neighbour stored for a line changes that alone, and so does a name.
-use Rattle.std.proofs.Common.{ℕ, ◌<◌, List, Some, ◌⊎◌, inl, inr, ⊎_elim, ◌≡◌, refl, ap, ◌∙◌, length, set}
+use Rattle.std.proofs.Common.{ℕ, ◌<◌, List, Some, ◌⊎◌, inl, inr, ⊎_elim, ◌≡◌, refl, ap, ◌∙◌, length, set, arith}
 use Rattle.std.proofs.Math.Decide.{ℕ_discrete}
 use Rattle.std.proofs.lemmas.List.{get_or-set_same, get_or-set_other}
+use Rattle.std.proofs.lemmas.Grind.{elements}
 use Rattle.meaning.specs.Table.{first, next, Dir, down, up}
 use Rattle.truths.specs.Spots.{alone, spot_at, near, near_at}
 use Rattle.truths.specs.Placing.{with_near, with_name, joined}
@@ -61,23 +62,15 @@ module _ (spots : List Spot) (e : Dir) (a v : ℕ) (inside : a < length spots) w
       at (no n) = elsewhere (λ f g. n g) (ap (λ s. near s d) (other p n))
 
   pub names_stay : (p : ℕ) → (spot_at (joined e a v spots) p).name ≡ (spot_at spots p).name
-  names_stay p = at (ℕ_discrete p a)
-    where
-      at : Dec (p ≡ a) → (spot_at (joined e a v spots) p).name ≡ (spot_at spots p).name
-      at (yes q) = rw q (ap (λ s. s.name) same ∙ name_stays e v (spot_at spots a))
-      at (no n) = ap (λ s. s.name) (other p n)
+  names_stay p = grind (arith, elements, name_stays e v (spot_at spots a))
 
 -- a name
 module _ (spots : List Spot) (a n : ℕ) (inside : a < length spots) where
   pub named : (spot_at (set spots a (with_name n (spot_at spots a))) a).name ≡ n
-  named = ap (λ s. s.name) (get_or-set_same spots a (with_name n (spot_at spots a)) alone inside)
+  named = grind (arith, elements)
 
   pub named_other : (p : ℕ) → (p ≡ a → ⊥) → (spot_at (set spots a (with_name n (spot_at spots a))) p).name ≡ (spot_at spots p).name
-  named_other p m = ap (λ s. s.name) (get_or-set_other spots a p (with_name n (spot_at spots a)) alone m)
+  named_other p m = grind (arith, elements, m)
 
   pub nears_stay : (d : Dir) (p : ℕ) → near_at (set spots a (with_name n (spot_at spots a))) d p ≡ near_at spots d p
-  nears_stay d p = at (ℕ_discrete p a)
-    where
-      at : Dec (p ≡ a) → near_at (set spots a (with_name n (spot_at spots a))) d p ≡ near_at spots d p
-      at (yes q) = rw q (ap (λ s. near s d) (get_or-set_same spots a (with_name n (spot_at spots a)) alone inside) ∙ near_stays d n (spot_at spots a))
-      at (no m) = ap (λ s. near s d) (get_or-set_other spots a p (with_name n (spot_at spots a)) alone m)
+  nears_stay d p = grind (arith, elements, near_stays d n (spot_at spots a))
