@@ -15,7 +15,7 @@ pub returns-in-Ok-2-clause-answered : goal.returns-in-Ok-2-clause-answered
 returns-in-Ok-2-clause-answered c = large_passed c.in_ok-read.read c.in_ok-read.ensures _ _ (cc) c.in-Ok.ensures.judged
 
 pub returns-in-Err-Missing-clause-answered : goal.returns-in-Err-Missing-clause-answered
-returns-in-Err-Missing-clause-answered c = not_there c.in_ok-read.read c.in_ok-read.ensures _ c.in-Err-Missing.i c.in-Err-Missing.field-0-is c.in-Err-Missing.ensures.judged
+returns-in-Err-Missing-clause-answered c = not_there c.in_ok-read.read c.in_ok-read.ensures _ _ (cc) c.in-Err-Missing.ensures.judged
 
 pub returns-in-Err-Looping-clause-answered : goal.returns-in-Err-Looping-clause-answered
-returns-in-Err-Looping-clause-answered c = on_loop c.in_ok-read.read c.in_ok-read.ensures _ c.in-Err-Looping.i c.in-Err-Looping.field-0-is c.in-Err-Looping.ensures.judged
+returns-in-Err-Looping-clause-answered c = on_loop c.in_ok-read.read c.in_ok-read.ensures _ _ (cc) c.in-Err-Looping.ensures.judged
