@@ -120,6 +120,9 @@ module _ {lines : List Line} where
       at (no h) (yes g) = absurd (a.none_before j g b.faulty)
       at (no h) (no g) = omega arith
 
+pub told_by : {lines : List Line} {i : ℕ} {b : Bool} → b ≡ faulty_at lines i → Decides b (Faulty lines i)
+told_by {lines} {i} e = rw e (told lines i)
+
 -- what a search finds that has passed the first n lines
 module _ (lines : List Line) where
   abbrev Passed : ℕ → Type 0

@@ -1,6 +1,7 @@
 // Refusal 10: the lines that fields name, and how often.
 ghost use Rattle.std.specs.Prelude.{◌≡◌, not, ◌≤◌, eqb, MatchOption};
-ghost use Rattle.sheets.specs.Links.{FaultFree, SmallestFaulty};
+ghost use Rattle.table.specs.Decides.{Decides};
+ghost use Rattle.sheets.specs.Links.{Faulty, FaultFree, SmallestFaulty};
 ghost use Rattle.sheets.specs.Counting.{wrong, wrong_in, names_by, names_in, times_named, faulty_at};
 
 use crate::Line;
@@ -13,7 +14,8 @@ pub(crate) fn first_faulty(lines: &[Line]) -> Option<usize>
 }
 
 fn is_faulty(lines: &[Line], i: usize) -> bool
-    ensures { result ≡ faulty_at lines.now i }
+    ensures decides { Decides result (Faulty lines.now i) }
+    ensures by_tests { result ≡ faulty_at lines.now i }
 {
     lines.get(i).is_some_and(|line| wrong_here(*line, i, lines.len())
         || 0 < i && misnamed(lines, i))
