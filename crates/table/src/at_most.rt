@@ -2,7 +2,7 @@
 ghost use Rattle.std.specs.Prelude.{◌≡◌, [], ◌<◌, ◌≤◌, length, take};
 ghost use Rattle.table.specs.Listed.{More};
 
-// What stands beyond the first `len` means nothing.
+// No heap is allowed, so a list is an array with its count, and this is the one place for it. What stands beyond the first `len` means nothing.
 #[derive(Clone, Copy)]
 pub struct AtMost<T, const N: usize> {
     pub items: [T; N],
@@ -21,20 +21,28 @@ impl<T: Copy, const N: usize> AtMost<T, N> {
     }
 
     // One more, or as they are where there is no place left.
+    pub fn push(&mut self, item: T)
+        ensures { More N self.old.items self.old.len item self.new.items self.new.len }
+    {
+        if self.len < N {
+            self.items[self.len] = item;
+            self.len += 1;
+        }
+    }
+
+    // The same as a new value.
     pub fn with(self, item: T) -> AtMost<T, N>
         ensures { More N self.items self.len item result.items result.len }
     {
         let mut more = self;
-        if more.len < N {
-            more.items[more.len] = item;
-            more.len += 1;
-        }
+        more.push(item);
         more
     }
 
     pub fn as_slice(&self) -> &[T]
         ensures { result.now ≡ take self.now.len self.now.items }
     {
+        // A table that nobody read may have any count, so that the count is at most N is no type invariant.
         &self.items[..self.len.min(N)]
     }
 }

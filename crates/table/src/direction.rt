@@ -1,4 +1,4 @@
-// The four directions of 01's section 2: down to the first child or the next sibling, and back up each.
+// The four directions: down to the first child or the next sibling, and back up each.
 ghost use Rattle.std.specs.Prelude.{◌≡◌};
 ghost use Rattle.meaning.specs.Table.{converse};
 ghost use Rattle.table.specs.Rows.{dir_of};

@@ -32,6 +32,7 @@ pub enum Row {
     Isnot(u8),
     Any(u8, u8),
     All(u8, u8),
+    // A number and no `Direction`: refusal 4 speaks of rows as written, and a second type of rows would say the eight kinds twice.
     Go(u8, u8),
     Stop(u8),
 }

@@ -1,4 +1,4 @@
-// 01's section 6, and 9 and 10 of a sheet: why a text, a table or memory is refused, and where.
+// Why a text, a table, a sheet or memory is refused, and where.
 ghost use Rattle.std.specs.Prelude.{◌≡◌};
 ghost use Rattle.table.specs.Refusals.{number_of, place_of};
 
