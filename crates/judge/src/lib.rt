@@ -4,7 +4,10 @@
 mod output;
 mod writer;
 
+ghost use Rattle.std.specs.Prelude.{◌≡◌, ◌≤◌, Err};
+ghost use Rattle.table.specs.Refusals.{place_of};
 ghost use Rattle.table.specs.Rows.{table_in};
+ghost use Rattle.sheets.specs.Lines.{line_limit};
 ghost use Rattle.judge.specs.Judging.{judged_of, JudgesLines, Judges, Small};
 ghost use Rattle.judge.specs.Ready.{Ready};
 
@@ -21,6 +24,19 @@ pub struct Judged {
     pub place: u32,
 }
 
+impl From<Refusal> for Judged {
+    ghost from_gives = { λ refusal judged. place_of refusal ≤ line_limit → judged ≡ judged_of (Err refusal) };
+
+    // A place is a row's or a line's number, so it fits.
+    fn from(refusal: Refusal) -> Judged {
+        Judged {
+            written: 0,
+            refusal: refusal.number(),
+            place: u32::try_from(refusal.place()).unwrap_or(0),
+        }
+    }
+}
+
 // The most bytes that are written: 10 lines of 4 bytes, 90 of 5 and 155 of 6.
 pub const OUTPUT: usize = 1420;
 
@@ -33,16 +49,12 @@ pub fn judge(table: &[u8], sheet: &[u8], out: &mut [u8]) -> Judged
             refusal: 0,
             place: 0,
         },
-        Err(refusal) => Judged {
-            written: 0,
-            refusal: refusal.number(),
-            place: refusal.place() as u32,
-        },
+        Err(refusal) => Judged::from(refusal),
     }
 }
 
-// The sheet is looked at once the table is admitted.
-fn judge_texts(table: &[u8], sheet: &[u8], out: &mut [u8]) -> Result<usize, Refusal>
+// How many bytes are written, or why none are. The sheet is looked at once the table is admitted.
+pub fn judge_texts(table: &[u8], sheet: &[u8], out: &mut [u8]) -> Result<usize, Refusal>
     ensures judges { Judges table.now sheet.now out.old out.new (judged_of result) }
     ensures small { Small result }
 {
