@@ -15,7 +15,7 @@ pub record OneReading (text : List ℕ) : Type 0 where
   pub reads : Reads text reading
   pub unique : {a b : Reading} → Reads text a → Reads text b → a ≡ b
 
--- 2. So what `read_text` gives back is settled, but for the cells of the table beyond its rows, which mean nothing.
+-- 2. So what `read_text` gives back is settled, but for the places of the table beyond its rows, which mean nothing.
 pub record SameTable (t u : Table) : Type 0 where
   pub count : t.rows.len ≡ u.rows.len
   pub rows : rows_of t ≡ rows_of u

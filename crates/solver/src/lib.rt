@@ -57,6 +57,7 @@ pub fn solve(
 {
     match reply(text, round, first, next, used) {
         Ok(found) => Answer::from(found),
+        // No From: a place is a usize, which any caller may have made large. Those of a reply are small.
         Err(refusal) => Answer {
             verdict: 0,
             height: 0,
@@ -67,8 +68,8 @@ pub fn solve(
     }
 }
 
-// A text is read, and then solved where each of the four slices has a place for every code.
-fn reply(
+// For whoever asks in Rust, without the numbers. A text is read, and then solved where each of the four slices has a place for every code.
+pub fn reply(
     text: &[u8],
     round: &mut [u16],
     first: &mut [u16],
