@@ -1,10 +1,10 @@
 -- A visit as the code makes it, from what each of its tests tells: code t was entered before, is not proper, is stuck at a side, or goes in.
 use Prim.Native.Nat.{ℕ, ◌+◌, ◌<◌}
 use native.Mathlib.Omega.{arith}
-use mathlib.Core.Bool.{Bool, true, false}
+use mathlib.Core.Bool.{true, false}
 use mathlib.Core.List.{List}
 use mathlib.Core.Logic.{◌≢◌}
-use mathlib.Core.Path.{◌≡◌, refl, sym}
+use mathlib.Core.Path.{◌≡◌, refl}
 use lib.ListN.{get_or, length, set}
 use lib.Seq.{get_or-set_same, get_or-set_other}
 use Rattle.meaning.specs.Code.{codes, Proper}
@@ -15,15 +15,12 @@ use Rattle.rounds.specs.Round.{running, Settles, Stuck, Halfway, Visited}
 use Rattle.rounds.proofs.Halfway.{was_there, improper, stuck, enters_here, enter}
 use Rattle.rounds.proofs.Places.{all_same, all_kept, kept_same, kept_store}
 
-pub not_both : {A : Type 0} → ◌≡◌ {A = Bool} true false → A
-not_both e = absurd (let z : ◌≡◌ {A = ℕ} 0 1 = cc in omega arith)
-
 module _ {rows : Table} (a : Accepted rows) {c k t : ℕ} (count : c ≡ codes rows) {r f n u : List ℕ} (room : Room c r f n u) (l : t < c) (h : Halfway rows k t (running r f n)) where
   is_code : t < codes rows
   is_code = rw count at l
 
   left_alone : Halfway rows k (t + 1) (running r f n) → Visited rows k t false (running r f n) (running r f n)
-  left_alone y = record { halfway = y; enters = λ e. not_both (sym e); idle = λ e. refl; kept = all_same }
+  left_alone y = record { halfway = y; enters = λ e. cc; idle = λ e. refl; kept = all_same }
 
   pub entered_before : get_or r t 0 ≢ 0 → Visited rows k t false (running r f n) (running r f n)
   entered_before d = left_alone (was_there a h is_code d)
@@ -58,6 +55,6 @@ module _ {rows : Table} (a : Accepted rows) {c k t : ℕ} (count : c ≡ codes r
       goes_in = record {
         halfway = enter a h is_code e p value settled _ (let w : t < length r = omega (arith, room.room_round) in get_or-set_same r t k 0 w) (λ u d. get_or-set_other r t u k 0 d) at_t elsewhere;
         enters = λ w. enters_here a h is_code e p value settled;
-        idle = λ w. not_both w;
+        idle = λ w. cc;
         kept = all_kept (kept_store r t k is_code) (kept_store f t v is_code) (kept_store n t w is_code) kept_same;
       }

@@ -18,6 +18,7 @@ impl<'a> Lent<'a> {
 }
 
 // `fill` says what it leaves for a known type alone, and these are two.
+#[tactic(auto, using(crate::proofs::Filled::filled_more))]
 fn clear<T: Copy>(slice: &mut [T], c: usize, v: T)
     requires { c ≤ length slice.old }
     ensures { slice.new ≡ cleared v c slice.old }

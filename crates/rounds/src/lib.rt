@@ -46,6 +46,7 @@ impl Given<'_> {
     }
 
     // Round after round, to the first that enters a good code or that enters nothing.
+    #[tactic(auto, using(crate::proofs::Whole::few, crate::proofs::Whole::ends, crate::proofs::Whole::exhausted, crate::proofs::Places::all_then, crate::proofs::Places::stays_then, crate::proofs::Neighbours::few_codes))]
     fn all_rounds(&self, memory: &mut Lent) -> Found
         requires { (memory.old.codes ≡ codes (table_given self.now)) × Before (table_given self.now) 1 (run memory.old) }
         ensures { Ended (table_given self.now) result (run memory.old) (run memory.new) × UsedStays memory.old memory.new }

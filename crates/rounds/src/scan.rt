@@ -23,6 +23,7 @@ fn candidate(round: &[u16], parts: Parts, k: u16, side: Side, u: usize) -> bool
 
 impl Given<'_> {
     // The smallest code of a round before k that t takes at a side.
+    #[tactic(auto, using(crate::proofs::Neighbours::few_codes, crate::proofs::Neighbours::least_none, crate::proofs::Neighbours::no_fit))]
     fn neighbour(&self, memory: &Lent, k: u16, side: Side, t: usize) -> Option<u16>
         requires { (memory.now.codes ≡ codes (table_given self.now)) × HasFlag (table_given self.now) t (down (side_of side)) }
         ensures { Least (Taken (table_given self.now) memory.now.round.now k (side_of side) t) result }

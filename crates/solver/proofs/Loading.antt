@@ -23,7 +23,7 @@ module _ {text : List ℕ} {r : Refusal} (a : Answered true text (Err r)) where
   -- the width of a name, by the text's one answer
   pub no_width : NameWidth text 0
   no_width = record {
-    of_table = λ y. absurd (let e = (one_answer text).unique a.takes y in let w : ◌≡◌ {A = ℕ} 0 1 = cc in omega arith);
+    of_table = λ y. let e = (one_answer text).unique a.takes y in cc;
     of_none = λ y. refl;
   }
 
@@ -39,5 +39,5 @@ module _ {text : List ℕ} {l : Loaded} (a : Answered true text (Ok l)) where
     of_table = λ {rows} y.
         let g : rows_of l.table ≡ rows = (let z = (one_answer text).unique a.takes y in cc) in
         f ∙ ap (λ (z : List Row). 16 * 2 ^ looks (table z)) g;
-    of_none = λ y. absurd (let z = (one_answer text).unique a.takes y in let v : ◌≡◌ {A = ℕ} 0 1 = cc in omega arith);
+    of_none = λ y. let e = (one_answer text).unique a.takes y in cc;
   }

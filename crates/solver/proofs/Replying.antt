@@ -16,10 +16,10 @@ use Rattle.solver.specs.Solved.{Refused, Reply, Room, numbered, Answers, Solves,
 module _ {text : List ℕ} {old new : Slices} {r : Reply} where
   pub of_refusal : {n p : ℕ} → Loads text (refused n p) → Replies text old new r → (r ≡ Refused n p) × (new ≡ old)
   of_refusal l (not_accepted k e q) = let z = (one_answer text).unique l k in (cc, q)
-  of_refusal l (accepted k s) = absurd (let z = (one_answer text).unique l k in let w : ◌≡◌ {A = ℕ} 0 1 = cc in omega arith)
+  of_refusal l (accepted k s) = absurd (let z = (one_answer text).unique l k in cc)
 
   pub of_table : {rows : List Row} → Loads text (rows_read rows) → Replies text old new r → Solves (table rows) old new r
-  of_table l (not_accepted k e q) = absurd (let z = (one_answer text).unique l k in let w : ◌≡◌ {A = ℕ} 0 1 = cc in omega arith)
+  of_table l (not_accepted k e q) = absurd (let z = (one_answer text).unique l k in cc)
   of_table {rows} l (accepted {rows = given} k s) =
       let z : given ≡ rows = (let w = (one_answer text).unique k l in cc) in
       subst (λ (x : List Row). Solves (table x) old new r) z s

@@ -16,13 +16,6 @@ mark_used-requires-clause-linked c =
     let e = c.seen_rounds-found.ensures in
     rw (e.1.same.same_codes, d.1.same_codes) (marks_from d.0 c.args.memory.now.room r.0 r.1 e.0 c.in-Sat.is).0
 
-pub mark_used-requires-clause-from_top : goal.mark_used-requires-clause-from_top
-mark_used-requires-clause-from_top c =
-    let r = c.requires in
-    let d = c.clear.ensures in
-    let e = c.seen_rounds-found.ensures in
-    rw (e.1.same.same_codes, d.1.same_codes, e.1.used_stays) (marks_from d.0 c.args.memory.now.room r.0 r.1 e.0 c.in-Sat.is).1
-
 pub returns-in-Sat : goal.returns-in-Sat
 returns-in-Sat c =
     let r = c.requires in
