@@ -1,4 +1,3 @@
-pub mod Filled
 pub mod Places
 pub mod Seen
 pub mod Neighbours

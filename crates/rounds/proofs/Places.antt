@@ -1,4 +1,4 @@
--- Laws of `cleared` and `Kept`: what stands below c and from c on, and how a loop clears one place after another.
+-- Laws of `cleared` and `Kept`: what stands below c and from c on.
 use Prim.Native.Nat.{ℕ, ◌+◌, ◌-◌, ◌<◌, ◌≤◌}
 use native.Mathlib.Omega.{arith}
 use mathlib.Core.List.{List}
