@@ -3,3 +3,4 @@ pub mod Layout
 pub mod Truths
 pub mod Sights
 pub mod Fits
+pub mod Sighted

@@ -3,7 +3,8 @@
 ghost use Rattle.std.specs.Prelude.{◌≡◌, ◌<◌, length};
 ghost use Rattle.table.specs.Rows.{table_in};
 ghost use Rattle.codes.specs.Layout.{Laid, InOrder};
-ghost use Rattle.codes.specs.Sights.{Sees, subject, sight_by};
+ghost use Rattle.codes.specs.Sighted.{SeesIn};
+ghost use Rattle.codes.specs.Sights.{subject, sight_by};
 ghost use Rattle.codes.specs.Truths.{true_by, Follows, AllWorked};
 
 use crate::looks::Looks;
@@ -68,20 +69,20 @@ impl<'a> Layout<'a> {
     }
 
     // Bit 0 is the lowest, and so the question goes first.
-    fn pack(&self, truths: &[bool]) -> usize
+    fn pack(&self, truths: &[bool]) -> u16
         ensures { result ≡ sight_by self.now.looks.rows.now self.now.looks.look.now self.now.looks.parts.m truths.now }
     {
-        let mut sight: usize = 0;
+        let mut sight: u16 = 0;
         for j in (0..=self.looks.parts.m).rev() {
-            sight = sight * 2 + usize::from(is_true(truths, self.subject_of(j)));
+            sight = sight * 2 + u16::from(is_true(truths, self.subject_of(j)));
         }
         sight
     }
 
     // What is asked of a code's truths, in one number, so that it is worked out once and kept: bit j is the truth of the row that the look row
     // of bit j names, and bit m that of the question.
-    pub fn sight_of(&self, code: usize) -> usize
-        ensures { Sees (table_in self.now.looks.rows.now) self.now.looks.look.now self.now.looks.parts.m code result × (result < 65536) }
+    pub fn sight_of(&self, code: usize) -> u16
+        ensures { SeesIn self.now.looks code result }
     {
         self.pack(&self.truths_in(code))
     }

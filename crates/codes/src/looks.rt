@@ -7,7 +7,6 @@ ghost use Rattle.table.specs.Rows.{table_in};
 ghost use Rattle.table.specs.declared.Row.TheVariants.{No};
 ghost use Rattle.codes.specs.Fits.{FitsRow, Flagged};
 ghost use Rattle.codes.specs.Layout.{Looking};
-ghost use Rattle.codes.specs.Sights.{Sees};
 
 use crate::parts::{Parts, has_bit};
 use table::Row;
@@ -22,7 +21,17 @@ pub struct Looks<'a> {
     pub ghost looking: { Looking rows.now look.now parts.m },
 }
 
+// A code, and the truths in it that the look rows ask for. That they are its truths stays a clause: what a Sighted holds does not say by whose
+// look rows.
+#[derive(Clone, Copy)]
+pub struct Sighted {
+    pub code: usize,
+    pub sight: usize,
+}
+
 impl<'a> Looks<'a> {
+    ghost use Rattle.codes.specs.Sighted.{SeesIn};
+
     // The row whose bit has place j.
     pub(crate) fn look_row(&self, j: usize) -> Row
         requires { j < self.now.parts.m }
@@ -31,29 +40,20 @@ impl<'a> Looks<'a> {
         self.rows[usize::from(self.look[j])]
     }
 
-    // Whether the look row of bit j lets code t take u at a side. Rows of the converse direction look from u at t. `own` and `other` are what is
-    // kept of the two codes' truths.
-    pub fn fits_row(
-        &self,
-        side: Side,
-        t: usize,
-        own: usize,
-        u: usize,
-        other: usize,
-        j: usize,
-    ) -> bool
-        requires { (j < self.now.parts.m) × Sees (table_in self.now.rows.now) self.now.look.now self.now.parts.m t own × Sees (table_in self.now.rows.now) self.now.look.now self.now.parts.m u other }
-        ensures { Decides result (FitsRow (table_in self.now.rows.now) (side_of side) t u (get_or self.now.look.now j 0)) }
+    // Whether the look row of bit j lets code t take u at a side. Rows of the converse direction look from u at t.
+    pub fn fits_row(&self, side: Side, t: Sighted, u: Sighted, j: usize) -> bool
+        requires { (j < self.now.parts.m) × SeesIn self.now t.code t.sight × SeesIn self.now u.code u.sight }
+        ensures { Decides result (FitsRow (table_in self.now.rows.now) (side_of side) t.code u.code (get_or self.now.look.now j 0)) }
     {
         let Row::Go(number, _) = self.look_row(j) else {
             return true;
         };
         let d = Direction::of(number);
         if d == Direction::Down(side) {
-            return has_bit(t, j) == has_bit(other, j);
+            return has_bit(t.code, j) == has_bit(u.sight, j);
         }
         if d == Direction::Up(side) {
-            return has_bit(u, j) == has_bit(own, j);
+            return has_bit(u.code, j) == has_bit(t.sight, j);
         }
         true
     }

@@ -1,4 +1,4 @@
-// A code's parts. It is taken apart by shifts: 2^m is no constant.
+// A code's parts. Its bits go by a shift, since 2^m is no constant; of what is above them each flag has a constant worth, to divide by.
 ghost use Rattle.std.specs.Prelude.{◌&&◌, ◌≡◌, ◌<◌};
 ghost use Rattle.meaning.specs.Table.{up, first, next};
 ghost use Rattle.table.specs.Directions.{dir};

@@ -3,9 +3,10 @@ ghost use Rattle.std.specs.Prelude.{◌≡◌, ◌<◌};
 ghost use Rattle.meaning.specs.Code.{Good};
 ghost use Rattle.table.specs.Decides.{Decides};
 ghost use Rattle.table.specs.Rows.{table_in};
-ghost use Rattle.codes.specs.Sights.{Sees, Sights};
+ghost use Rattle.codes.specs.Sighted.{SeesIn, SightsIn};
 
 use crate::layout::Layout;
+use crate::looks::Sighted;
 use crate::parts::has_bit;
 use table::direction::{Direction, Side};
 
@@ -17,18 +18,25 @@ pub const UNSEEN: u16 = 65535;
 pub struct Seen<'a> {
     pub layout: Layout<'a>,
     pub sights: &'a [u16],
-    pub ghost right: { ∥ Sights (table_in layout.looks.rows.now) layout.looks.look.now layout.looks.parts.m sights.now ∥₁ },
+    pub ghost right: { ∥ SightsIn layout.looks sights.now ∥₁ },
 }
 
 impl<'a> Seen<'a> {
     // What is kept of a code, or else worked out.
-    pub fn sight(&self, code: usize) -> usize
-        ensures { Sees (table_in self.now.layout.looks.rows.now) self.now.layout.looks.look.now self.now.layout.looks.parts.m code result }
+    fn sight(&self, code: usize) -> u16
+        ensures { SeesIn self.now.layout.looks code result }
     {
         match self.sights.get(code).copied() {
-            Some(kept) if kept != UNSEEN => usize::from(kept),
+            Some(kept) if kept != UNSEEN => kept,
             _ => self.layout.sight_of(code),
         }
+    }
+
+    pub fn sighted(&self, code: usize) -> Sighted
+        ensures { (result.code ≡ code) × SeesIn self.now.layout.looks result.code result.sight }
+    {
+        let sight = usize::from(self.sight(code));
+        Sighted { code, sight }
     }
 
     pub fn good(&self, code: usize) -> bool
@@ -41,6 +49,6 @@ impl<'a> Seen<'a> {
         if parts.has_flag(code, Direction::Up(Side::Next)) {
             return false;
         }
-        has_bit(self.sight(code), parts.m)
+        has_bit(self.sighted(code).sight, parts.m)
     }
 }

@@ -1,3 +1,4 @@
+// What a code takes at a side: its neighbour there, the first that fits among the codes of earlier rounds.
 ghost use Rattle.std.specs.Prelude.{◌≡◌, ◌<◌, length};
 ghost use Rattle.table.specs.Decides.{Decides};
 ghost use Rattle.table.specs.Directions.{side as side_of};
@@ -29,16 +30,16 @@ impl Given<'_> {
         ensures { Least (Taken (table_given self.now) memory.now.round.now k (side_of side) t) result }
     {
         let looks = self.seen.layout.looks;
-        let own = self.seen.sight(t);
+        let own = self.seen.sighted(t);
         // The specification names this form: a nested scan, with a labelled `continue` and a `break` at the first code that fits.
         let mut found = None;
         'codes: for u in 0..memory.codes {
             if !candidate(memory.round, looks.parts, k, side, u) {
                 continue 'codes;
             }
-            let other = self.seen.sight(u);
+            let other = self.seen.sighted(u);
             for j in 0..looks.parts.m {
-                if !looks.fits_row(side, t, own, u, other, j) {
+                if !looks.fits_row(side, own, other, j) {
                     continue 'codes;
                 }
             }
@@ -53,13 +54,8 @@ impl Given<'_> {
         requires { memory.now.codes ≡ codes (table_given self.now) }
         ensures { SideIs (table_given self.now) memory.now.round.now k (side_of side) t result }
     {
-        if !self
-            .seen
-            .layout
-            .looks
-            .parts
-            .has_flag(t, Direction::Down(side))
-        {
+        let parts = self.seen.layout.looks.parts;
+        if !parts.has_flag(t, Direction::Down(side)) {
             return Some(NONE);
         }
         self.neighbour(memory, k, side, t)

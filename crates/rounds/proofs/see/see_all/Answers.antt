@@ -10,6 +10,6 @@ loop-u-preserved c =
     elim c.if-proper.branch [
       | then-proper w ↦
           let inside : l.u < length l.sights = omega arith in
-          rw w.sights-is (one_kept l.invariant l.u w.sight_of.result inside w.sight_of.ensures.0)
+          rw w.sights-is (one_kept l.invariant l.u w.sight_of.result inside w.sight_of.ensures)
       | else-proper w ↦ rw (w.sights-is, set-get_or l.sights l.u 0) l.invariant
     ]

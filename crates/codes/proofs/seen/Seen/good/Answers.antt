@@ -15,7 +15,7 @@ pub returns : goal.returns
 returns c =
     let l = c.args.self.now.layout.looks.looking in
     let e = c.has_bit.ensures in
-    let q = c.sight.ensures.question in
+    let q = (rw c.sighted.ensures.0 at c.sighted.ensures.1).question in
     record {
       sound = λ t. record {
         no_parent = elim [
