@@ -28,13 +28,6 @@ pub record UsedStays (old new : Lent) : Type 0 where
   pub same : SameLent old new
   pub used_stays : new.used.now ≡ old.used.now
 
--- Round, first and next are as they were: the marks alone change.
-pub record RoundsStay (old new : Lent) : Type 0 where
-  pub same : SameLent old new
-  pub round_stays : new.round.now ≡ old.round.now
-  pub first_stays : new.first.now ≡ old.first.now
-  pub next_stays : new.next.now ≡ old.next.now
-
 -- All four slices cleared: no code is entered, none has a neighbour, none is used.
 pub record Cleared (c : ℕ) (old new : Slices) : Type 0 where
   pub no_round : new.round ≡ cleared 0 c old.round

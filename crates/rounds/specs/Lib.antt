@@ -4,4 +4,5 @@ pub mod Kept
 pub mod Round
 pub mod Ended
 pub mod Used
+pub mod Trees
 pub mod Found

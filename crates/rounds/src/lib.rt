@@ -6,6 +6,7 @@ mod given;
 pub mod lent;
 mod scan;
 mod see;
+mod tree;
 mod used;
 
 ghost use Rattle.std.specs.Prelude.{◌≡◌};
@@ -22,6 +23,7 @@ use codes::layout::Layout;
 use codes::seen::{Seen, UNSEEN};
 use given::Given;
 use lent::Lent;
+use tree::Tree;
 
 // What stands where there is no neighbour: this is never a proper code. It is no Option, since first and next are lent by C as numbers.
 pub const NONE: u16 = 65535;
@@ -86,7 +88,16 @@ pub fn search(layout: Layout, memory: &mut Lent) -> Found
     memory.clear();
     let found = seen_rounds(layout, memory);
     if let Found::Sat { height, top } = found {
-        memory.mark_used(height, top);
+        let round = &mut *memory.round;
+        let first = &mut *memory.first;
+        let next = &mut *memory.next;
+        let tree = Tree {
+            round,
+            first,
+            next,
+            codes: memory.codes,
+        };
+        tree.mark_used(memory.used, height, top);
     }
     found
 }

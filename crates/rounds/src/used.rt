@@ -1,46 +1,44 @@
-ghost use Rattle.std.specs.Prelude.{◌≡◌, ◌≢◌, ℕ, ◌+◌, ◌<◌, length, get_or};
+// The codes met from the top through first and next, marked.
+ghost use Rattle.std.specs.Prelude.{◌≡◌, ◌≢◌, ℕ, ◌+◌, ◌<◌, ◌≤◌, length, get_or};
 ghost use Rattle.meaning.specs.Outcome.{absent};
-ghost use Rattle.rounds.specs.Kept.{RoundsStay};
-ghost use Rattle.rounds.specs.Round.{run};
-ghost use Rattle.rounds.specs.Used.{code_in, marked, Linked, Handed, Used};
+ghost use Rattle.rounds.specs.Trees.{links};
+ghost use Rattle.rounds.specs.Used.{code_in, marked, Handed, Used};
 
 use crate::NONE;
-use crate::lent::Lent;
+use crate::tree::Tree;
 
-impl Lent<'_> {
+impl Tree<'_> {
     // Marks the codes met from the top, round by round downwards, since a neighbour is of an earlier round than its code.
-    pub(crate) fn mark_used(&mut self, height: u16, top: u16)
-        requires linked { Linked self.old.codes (run self.old) }
-        requires from_top { (top < self.old.codes) × (get_or self.old.round.now top 0 ≡ height) × (0 < height) × ((u : ℕ) → u < self.old.codes → get_or self.old.used.now u 0 ≡ 0) }
-        ensures { Used self.old.codes (run self.old) top self.old.used.now self.new.used.now × RoundsStay self.old self.new }
+    pub(crate) fn mark_used(&self, used: &mut [u8], height: u16, top: u16)
+        requires room { self.now.codes ≤ length used.old }
+        requires from_top { (top < self.now.codes) × (get_or self.now.round.now top 0 ≡ height) × (0 < height) × ((u : ℕ) → u < self.now.codes → get_or used.old u 0 ≡ 0) }
+        ensures { Used self.now.codes (links self.now) top used.old used.new }
     {
-        self.used[usize::from(top)] = 1;
+        used[usize::from(top)] = 1;
         for r in (1..=height).rev() {
-            self.mark_round(r);
+            self.mark_round(used, r);
         }
     }
 
     // Each marked code of round r hands its mark on.
-    fn mark_round(&mut self, r: u16)
-        requires { Linked self.old.codes (run self.old) }
-        ensures { Handed self.old.codes (run self.old) r 0 self.old.codes self.old.used.now self.new.used.now × RoundsStay self.old self.new }
+    fn mark_round(&self, used: &mut [u8], r: u16)
+        requires { self.now.codes ≤ length used.old }
+        ensures { Handed self.now.codes (links self.now) r 0 self.now.codes used.old used.new }
     {
         for t in 0..self.codes {
-            self.hand_on(r, t);
+            self.hand_on(used, r, t);
         }
     }
 
-    fn hand_on(&mut self, r: u16, t: usize)
-        requires { Linked self.old.codes (run self.old) × (t < self.old.codes) }
-        ensures { Handed self.old.codes (run self.old) r t (t + 1) self.old.used.now self.new.used.now × RoundsStay self.old self.new }
+    fn hand_on(&self, used: &mut [u8], r: u16, t: usize)
+        requires { (self.now.codes ≤ length used.old) × (t < self.now.codes) }
+        ensures { Handed self.now.codes (links self.now) r t (t + 1) used.old used.new }
     {
-        if self.round[t] != r || self.used[t] != 1 {
+        if self.round[t] != r || used[t] != 1 {
             return;
         }
-        let first = self.first[t];
-        let next = self.next[t];
-        mark(self.used, first);
-        mark(self.used, next);
+        mark(used, self.first[t]);
+        mark(used, self.next[t]);
     }
 }
 

@@ -1,4 +1,5 @@
 -- The cleared slices are those before round 1; the rounds and the marks leave the outcome.
+use Rattle.std.proofs.Common.{refl}
 use Rattle.rounds.proofs.Answer.{before_one, marks_from, answers_sat, answers_unsat}
 use Rattle.rounds.proofs.Places.{same_then}
 use Rattle.rounds.proofs.search.Goals as goal
@@ -9,8 +10,8 @@ seen_rounds-found-requires c =
     let d = c.clear.ensures in
     (r.0, rw d.1.same_codes r.1, before_one d.0 r.1)
 
-pub mark_used-requires-clause-linked : goal.mark_used-requires-clause-linked
-mark_used-requires-clause-linked c =
+pub invariant_of-tree-clause-linked : goal.invariant_of-tree-clause-linked
+invariant_of-tree-clause-linked c =
     let r = c.requires in
     let d = c.clear.ensures in
     let e = c.seen_rounds-found.ensures in
@@ -21,11 +22,7 @@ returns-in-Sat c =
     let r = c.requires in
     let d = c.clear.ensures in
     let e = c.seen_rounds-found.ensures in
-    let k = c.mark_used.ensures in (
-      rw (k.1.round_stays, k.1.first_stays, k.1.next_stays)
-          (answers_sat d.0 c.args.memory.now.room r.0 r.1 e.0 c.in-Sat.is (rw (e.1.same.same_codes, d.1.same_codes, e.1.used_stays) at k.0)),
-      same_then d.1 (same_then e.1.same k.1.same),
-    )
+    (answers_sat d.0 c.args.memory.now.room r.0 r.1 e.0 c.in-Sat.is (rw (e.1.same.same_codes, d.1.same_codes, e.1.used_stays) at c.mark_used.ensures), same_then d.1 (same_then e.1.same (record { same_round = refl; same_first = refl; same_next = refl; same_used = refl; same_codes = refl })))
 
 pub returns-in_default : goal.returns-in_default
 returns-in_default c =
