@@ -5,7 +5,7 @@ use native.Mathlib.Decide.{dec_lt}
 use mathlib.Core.List.{List}
 use mathlib.Core.Path.{◌≡◌, refl}
 use lib.ListN.{get_or}
-use Rattle.std.specs.Prelude.{Option, Some, None}
+use Rattle.std.specs.Prelude.{Some, None}
 use Rattle.codes.specs.Fits.{FitsRow}
 use Rattle.codes.specs.Layout.{Looking}
 use Rattle.codes.proofs.Takes.{flag_is, takes_rows}
@@ -14,7 +14,7 @@ use Rattle.meaning.specs.Table.{Side, down, up, Table}
 use Rattle.meaning.specs.Outcome.{Accepted}
 use Rattle.table.specs.Rows.{table_in}
 use Rattle.table.specs.declared.Row.{Row}
-use Rattle.rounds.specs.Round.{Candidate, Taken, Least, child, SideIs}
+use Rattle.rounds.specs.Round.{Candidate, Taken, Least}
 
 -- nothing below u, and u itself or nothing at all
 module _ {P : ℕ → Type 0} where
@@ -30,11 +30,6 @@ module _ {P : ℕ → Type 0} where
 
   pub least_none : {u c : ℕ} → ((w : ℕ) → w < u → P w → ⊥) → ((w : ℕ) → P w → w < c) → c ≤ u → Least P None
   least_none f b l w p = f w (omega (arith, b w p)) p
-
--- what the scan found, for the side of a flagged code
-pub side_by : (rows : Table) (round : List ℕ) (k t : ℕ) (s : Side) → HasFlag rows t (down s) → (found : Option ℕ) → Least (Taken rows round k s t) found → SideIs rows round k s t found
-side_by rows round k t s f (Some u) l = child l.0 l.1
-side_by rows round k t s f None l = record { flagged = f; none_taken = l }
 
 -- 16 × 4,096 codes at the most
 pub few_codes : {rows : Table} {c : ℕ} → Accepted rows → c ≡ codes rows → c ≤ 65536

@@ -1,6 +1,6 @@
 -- 01, section 5: a round under way. Codes entered in it are not used in it, so every code looks for its neighbours among those of the rounds
 -- before.
-use Rattle.std.specs.Prelude.{ℕ, ◌+◌, ◌-◌, ◌<◌, ◌≤◌, Bool, true, false, List, [], ◌≡◌, get_or, Option, Some, None}
+use Rattle.std.specs.Prelude.{ℕ, ◌+◌, ◌-◌, ◌<◌, ◌≤◌, Bool, true, false, List, [], ◌≡◌, get_or, Option, Some, None, unwrap_or}
 use Rattle.codes.specs.Parts.{flag_by}
 use Rattle.meaning.specs.Code.{codes, HasFlag, Takes}
 use Rattle.meaning.specs.Marked.{Smallest}
@@ -45,9 +45,9 @@ pub record Stuck (rows : Table) (round : List ℕ) (k : ℕ) (s : Side) (t : ℕ
   pub flagged : HasFlag rows t (down s)
   pub none_taken : (w : ℕ) → Taken rows round k s t w → ⊥
 
--- A side is settled or stuck.
-abbrev pub SideIs : Table → List ℕ → ℕ → Side → ℕ → Option ℕ → Type 0
-SideIs rows round k s t (Some u) = Settles rows round k s t u
+-- A side is settled, with its neighbour or with none, or stuck.
+abbrev pub SideIs : Table → List ℕ → ℕ → Side → ℕ → Option (Option ℕ) → Type 0
+SideIs rows round k s t (Some found) = Settles rows round k s t (unwrap_or found absent)
 SideIs rows round k s t None = Stuck rows round k s t
 
 -- Round k is under way and has visited the codes below t: those are as round k leaves them, the others as the round before left them.

@@ -5,6 +5,7 @@ ghost use Rattle.rounds.specs.Kept.{UsedStays};
 ghost use Rattle.rounds.specs.Round.{run, Halfway, Visited, Over};
 ghost use Rattle.rounds.specs.Tables.{table_given};
 
+use crate::NONE;
 use crate::given::Given;
 use crate::lent::Lent;
 use table::direction::Side;
@@ -25,8 +26,8 @@ impl Given<'_> {
             return false;
         };
         memory.round[t] = k;
-        memory.first[t] = first;
-        memory.next[t] = next;
+        memory.first[t] = first.unwrap_or(NONE);
+        memory.next[t] = next.unwrap_or(NONE);
         true
     }
 

@@ -7,7 +7,6 @@ ghost use Rattle.meaning.specs.Table.{down};
 ghost use Rattle.rounds.specs.Round.{Candidate, Taken, Least, SideIs};
 ghost use Rattle.rounds.specs.Tables.{table_given};
 
-use crate::NONE;
 use crate::given::Given;
 use crate::lent::Lent;
 use codes::parts::Parts;
@@ -49,15 +48,16 @@ impl Given<'_> {
         found
     }
 
-    // What is recorded of a code at a side when it is entered. None where the code cannot be: the side is flagged and there is nothing to take.
-    pub(crate) fn settle(&self, memory: &Lent, k: u16, side: Side, t: usize) -> Option<u16>
+    // The neighbour that a code is entered with at a side, which is none where it has no flag there. None at all where the code cannot be entered:
+    // the side is flagged and there is nothing to take.
+    pub(crate) fn settle(&self, memory: &Lent, k: u16, side: Side, t: usize) -> Option<Option<u16>>
         requires { memory.now.codes ≡ codes (table_given self.now) }
         ensures { SideIs (table_given self.now) memory.now.round.now k (side_of side) t result }
     {
         let parts = self.seen.layout.looks.parts;
         if !parts.has_flag(t, Direction::Down(side)) {
-            return Some(NONE);
+            return Some(None);
         }
-        self.neighbour(memory, k, side, t)
+        Some(Some(self.neighbour(memory, k, side, t)?))
     }
 }

@@ -29,7 +29,8 @@ returns-in_default-settle c =
 pub returns : goal.returns
 returns c =
     let r = c.requires in (
-      goes_in c.args.self.now.accepted r.0 c.args.memory.now.room r.1 r.2 c.if-memory-t-ne0.false (c.proper.ensures.sound c.if-not-proper.false)
-          c.in-Some.ensures c.in-Some-settle.ensures,
+      rw (c.unwrap_or.ensures, c.unwrap_or-2.ensures)
+          (goes_in c.args.self.now.accepted r.0 c.args.memory.now.room r.1 r.2 c.if-memory-t-ne0.false (c.proper.ensures.sound c.if-not-proper.false)
+          c.in-Some.ensures c.in-Some-settle.ensures),
       record { same = record { same_round = refl; same_first = refl; same_next = refl; same_used = refl; same_codes = refl }; used_stays = refl },
     )
