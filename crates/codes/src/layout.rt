@@ -3,8 +3,7 @@
 ghost use Rattle.std.specs.Prelude.{◌≡◌, ◌<◌, length};
 ghost use Rattle.table.specs.Rows.{table_in};
 ghost use Rattle.codes.specs.Layout.{Laid, InOrder};
-ghost use Rattle.codes.specs.Sighted.{SeesIn};
-ghost use Rattle.codes.specs.Sights.{subject, sight_by};
+ghost use Rattle.codes.specs.Sighted.{SeesIn, subject_in, sight_in};
 ghost use Rattle.codes.specs.Truths.{true_by, Follows, AllWorked};
 
 use crate::looks::Looks;
@@ -19,6 +18,7 @@ const ASKED: usize = 0;
 #[derive(Clone, Copy)]
 pub struct Layout<'a> {
     pub looks: Looks<'a>,
+    // No part of the rows: those are the table's own slice, and a struct of both would be a second table.
     pub places: &'a [u8],
     pub order: &'a [u8],
     pub ghost laid: { Laid looks.rows.now places.now looks.parts.m },
@@ -58,7 +58,7 @@ impl<'a> Layout<'a> {
 
     // The row whose truth is bit j of a sight: the one that the look row of bit j names, and above them the question.
     fn subject_of(&self, j: usize) -> usize
-        ensures { result ≡ subject self.now.looks.rows.now self.now.looks.look.now self.now.looks.parts.m j }
+        ensures { result ≡ subject_in self.now.looks j }
     {
         if j < self.looks.parts.m {
             if let Row::Go(_, i) = self.looks.look_row(j) {
@@ -70,7 +70,7 @@ impl<'a> Layout<'a> {
 
     // Bit 0 is the lowest, and so the question goes first.
     fn pack(&self, truths: &[bool]) -> u16
-        ensures { result ≡ sight_by self.now.looks.rows.now self.now.looks.look.now self.now.looks.parts.m truths.now }
+        ensures { result ≡ sight_in self.now.looks truths.now }
     {
         let mut sight: u16 = 0;
         for j in (0..=self.looks.parts.m).rev() {

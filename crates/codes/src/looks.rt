@@ -16,13 +16,13 @@ use table::direction::{Direction, Side};
 #[derive(Clone, Copy)]
 pub struct Looks<'a> {
     pub rows: &'a [Row],
+    // May be longer than m. Were m its length, more would be asked of whoever makes a Looks, and m would stay: `parts` takes codes apart at it.
     pub look: &'a [u8],
     pub parts: Parts,
     pub ghost looking: { Looking rows.now look.now parts.m },
 }
 
-// A code, and the truths in it that the look rows ask for. That they are its truths stays a clause: what a Sighted holds does not say by whose
-// look rows.
+// A code, and its truths that are asked for. That they are its own stays a clause: no ghost field can say it without the Looks that ask.
 #[derive(Clone, Copy)]
 pub struct Sighted {
     pub code: usize,
