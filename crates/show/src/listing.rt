@@ -18,7 +18,7 @@ pub(crate) struct Listing<'a> {
 
 impl Listing<'_> {
     // One line for each used code, by round and then by code.
-    pub(crate) fn write<W: Write>(&self, out: &mut W, height: u32) -> io::Result<()> {
+    pub(crate) fn write<W: Write>(&self, out: &mut W, height: u16) -> io::Result<()> {
         for round in 1..=height {
             self.write_round(out, round)?;
         }
@@ -26,11 +26,11 @@ impl Listing<'_> {
     }
 
     // The used codes of a round, by code.
-    fn write_round<W: Write>(&self, out: &mut W, round: u32) -> io::Result<()> {
+    fn write_round<W: Write>(&self, out: &mut W, round: u16) -> io::Result<()> {
         let entered = self.round.iter().zip(self.used);
         let beside = self.first.iter().zip(self.next);
         for (code, ((k, used), (first, next))) in entered.zip(beside).enumerate() {
-            if *used != 0 && u32::from(*k) == round {
+            if *used != 0 && *k == round {
                 let line = Line {
                     code,
                     name: code / self.width,
