@@ -9,7 +9,7 @@ use std::io::Write;
 use table::Table;
 
 // A label, and the text of a table.
-pub(crate) type Case = (&'static [u8], &'static [u8]);
+pub(crate) type Case = (&'static str, &'static [u8]);
 
 // How many codes `sheetsat` has room for.
 const USUAL: usize = 4096;
@@ -17,8 +17,7 @@ const USUAL: usize = 4096;
 // Lends as many places as are asked for, of arrays that have one for each code of the largest table.
 fn show_case<W: Write>(out: &mut W, places: usize, case: &Case) -> io::Result<()> {
     let (label, text) = *case;
-    out.write_all(label)?;
-    out.write_all(b"\n")?;
+    writeln!(out, "{label}")?;
     let mut round = [0u16; Table::CODES];
     let mut first = [0u16; Table::CODES];
     let mut next = [0u16; Table::CODES];
@@ -35,10 +34,9 @@ fn show_case<W: Write>(out: &mut W, places: usize, case: &Case) -> io::Result<()
 }
 
 fn show_cases<W: Write>(out: &mut W, places: usize, cases: &[Case]) -> io::Result<()> {
-    for case in cases {
-        show_case(out, places, case)?;
-    }
-    Ok(())
+    cases
+        .iter()
+        .try_for_each(|case| show_case(out, places, case))
 }
 
 fn main(rt: HostRuntime) -> io::Result<()> {

@@ -3,40 +3,40 @@ use crate::Case;
 
 // Where row 0 is true.
 pub(crate) const TRUTHS: [Case; 9] = [
-    (b"a sheet of one line", b"yes\n", b"0\t-\t-\n"),
-    (b"a name", b"is\t1\n", b"1\t1\t2\n0\t-\t-\n1\t-\t-\n"),
+    ("a sheet of one line", b"yes\n", b"0\t-\t-\n"),
+    ("a name", b"is\t1\n", b"1\t1\t2\n0\t-\t-\n1\t-\t-\n"),
     (
-        b"a name that the table does not know counts as 0",
+        "a name that the table does not know counts as 0",
         b"is\t0\n",
         b"15\t-\t-\n",
     ),
     (
-        b"and one that it knows does not",
+        "and one that it knows does not",
         b"any\t1\t2\nis\t0\nis\t15\n",
         b"15\t1\t-\n14\t-\t-\n",
     ),
     (
-        b"up from the first child only",
+        "up from the first child only",
         b"go\t3\t1\nis\t1\n",
         b"1\t1\t-\n0\t-\t2\n0\t-\t-\n",
     ),
     (
-        b"back from the one after",
+        "back from the one after",
         b"go\t4\t1\nis\t0\n",
         b"1\t1\t-\n0\t-\t2\n0\t-\t-\n",
     ),
     (
-        b"down to where nothing follows",
+        "down to where nothing follows",
         b"any\t1\t2\nall\t3\t4\ngo\t1\t0\nis\t1\nstop\t1\n",
         b"0\t1\t4\n0\t2\t3\n1\t-\t-\n0\t-\t-\n0\t-\t-\n",
     ),
     (
-        b"no end, and so never true",
+        "no end, and so never true",
         b"go\t3\t0\n",
         b"0\t1\t-\n0\t-\t-\n",
     ),
     (
-        b"thirteen looks",
+        "thirteen looks",
         b"go\t1\t0\ngo\t1\t0\ngo\t1\t0\ngo\t1\t0\ngo\t1\t0\ngo\t1\t0\ngo\t1\t0\ngo\t1\t0\ngo\t1\t0\ngo\t1\t0\ngo\t1\t0\ngo\t1\t0\ngo\t1\t0\n",
         b"0\t-\t-\n",
     ),

@@ -8,20 +8,16 @@ use std::io;
 use std::io::Write;
 
 // A label, the text of a table and that of a sheet.
-pub(crate) type Case = (&'static [u8], &'static [u8], &'static [u8]);
+pub(crate) type Case = (&'static str, &'static [u8], &'static [u8]);
 
 fn show_case<W: Write>(out: &mut W, case: &Case) -> io::Result<()> {
     let (label, table, sheet) = *case;
-    out.write_all(label)?;
-    out.write_all(b"\n")?;
+    writeln!(out, "{label}")?;
     show::show_judged(out, table, sheet)
 }
 
 fn show_cases<W: Write>(out: &mut W, cases: &[Case]) -> io::Result<()> {
-    for case in cases {
-        show_case(out, case)?;
-    }
-    Ok(())
+    cases.iter().try_for_each(|case| show_case(out, case))
 }
 
 fn main(rt: HostRuntime) -> io::Result<()> {

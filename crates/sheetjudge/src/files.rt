@@ -33,6 +33,7 @@ fn open<'a, R: Env + Files>(
 }
 
 impl Fault<'_> {
+    // No Display: the system's words are formatted before their number can be cut off, and a Display has no memory for that.
     pub(crate) fn say<R: Eprint + Alloc>(self, rt: &R) -> io::Result<()> {
         match self {
             Fault::NameTooLong => eprintln!(rt; "sheetjudge: File name too long"),
