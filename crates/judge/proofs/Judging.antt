@@ -48,7 +48,7 @@ module _ {rows : List Row} {lines : List Line} (ready : Ready rows lines) where
   long : {n : ℕ} {bytes : List ℕ} → OutputLength (length lines) n → Verdicts (table_in rows) lines bytes → length bytes ≡ n
   long o v = ap length v.bytes_are ∙ o.lines v.digits v.many
 
-  pub has_room : {n m : ℕ} (truth : List Bool) → OutputLength (length lines) n → n ≤ m → length (verdict_lines 0 (digits_of truth 0 (length lines))) ≤ m
+  pub has_room : {n m : ℕ} (truth : List (List Bool)) → OutputLength (length lines) n → n ≤ m → length (verdict_lines 0 (digits_of truth 0 (length lines))) ≤ m
   has_room truth o h = omega (arith, o.lines (digits_of truth 0 (length lines)) (length_digits truth 0 (length lines)))
 
   pub no_room : {n : ℕ} {old : List ℕ} → OutputLength (length lines) n → length old < n → JudgesLines (table_in rows) lines old old (judged_of (Err NoRoom))
@@ -57,7 +57,7 @@ module _ {rows : List Row} {lines : List Line} (ready : Ready rows lines) where
       let v = some_verdicts (table_in rows) lines grown.0 grown.1 x.some_row x.in_range x.loop_free in
       too_few v.1 (omega (arith, long o v.1)) (refuses NoRoom)
 
-  module _ {truth : List Bool} (d : Decided (table_in rows) lines truth) where
+  module _ {truth : List (List Bool)} (d : Decided (table_in rows) lines truth) where
     right : (i : ℕ) (p : Place) → At lines i p → DigitIs (table_in rows) grown.0 p (get_or (digits_of truth 0 (length lines)) i 0)
     right i p at = rw (digit_at truth i (length lines) (grown.1.inside at).0) (digit_by (found truth i 0) (d.decides grown.0 grown.1 p i 0 at ready.admissible.some_row))
 

@@ -79,12 +79,12 @@ pub output_length_lem : (bs : List ℕ) → length (verdict_lines 0 bs) ≡ 4 * 
 unfolding longer
 output_length_lem bs = omega (arith, length_from 0 bs)
 
-pub length_digits : (truth : List Bool) (i k : ℕ) → length (digits_of truth i k) ≡ k
+pub length_digits : (truth : List (List Bool)) (i k : ℕ) → length (digits_of truth i k) ≡ k
 unfolding digits_of
 length_digits truth i zero = refl
 length_digits truth i (suc k) = ap suc (length_digits truth (suc i) k)
 
-digit_later : (truth : List Bool) (j k i : ℕ) → i < k → get_or (digits_of truth j k) i 0 ≡ cond (found truth (j + i) 0) 1 0
+digit_later : (truth : List (List Bool)) (j k i : ℕ) → i < k → get_or (digits_of truth j k) i 0 ≡ cond (found truth (j + i) 0) 1 0
 unfolding digits_of
 digit_later truth j zero i h = absurd (omega arith)
 digit_later truth j (suc k) zero h = let e : j + 0 ≡ j = omega arith in rw e
@@ -92,5 +92,5 @@ digit_later truth j (suc k) (suc i) h =
     let e : j + suc i ≡ suc j + i = omega arith in
     rw e (digit_later truth (suc j) k i (omega arith))
 
-pub digit_at : (truth : List Bool) (i k : ℕ) → i < k → get_or (digits_of truth 0 k) i 0 ≡ cond (found truth i 0) 1 0
+pub digit_at : (truth : List (List Bool)) (i k : ℕ) → i < k → get_or (digits_of truth 0 k) i 0 ≡ cond (found truth i 0) 1 0
 digit_at truth i k h = let e : 0 + i ≡ i = omega arith in rw e at (digit_later truth 0 k i h)

@@ -9,7 +9,7 @@ abbrev pub output_limit : ℕ
 output_limit = 1420
 
 -- The digits of so many lines from line i on: row 0's truth at each.
-unfoldable pub digits_of : List Bool → ℕ → ℕ → List ℕ
+unfoldable pub digits_of : List (List Bool) → ℕ → ℕ → List ℕ
 digits_of truth i zero = []
 digits_of truth i (suc k) = cond (found truth i 0) 1 0 ∷ digits_of truth (suc i) k
 
@@ -34,7 +34,7 @@ pub record OutputLength (n bytes : ℕ) : Type 0 where
   pub few : bytes ≤ output_limit
 
 -- What is written of n lines stands first, and the bytes beyond it are untouched.
-pub record Written (truth : List Bool) (n : ℕ) (old new : List ℕ) (bytes : ℕ) : Type 0 where
+pub record Written (truth : List (List Bool)) (n : ℕ) (old new : List ℕ) (bytes : ℕ) : Type 0 where
   pub stands : new ≡ verdict_lines 0 (digits_of truth 0 n) ++ drop bytes old
   pub long : bytes ≡ length (verdict_lines 0 (digits_of truth 0 n))
   pub few : bytes ≤ output_limit

@@ -6,8 +6,8 @@ ghost use Rattle.judge.specs.Writing.{digits_of, OutputLength, Written, output_l
 
 use crate::OUTPUT;
 use crate::writer::Writer;
+use sheets::Sheet;
 use table::Table;
-use truths::CELLS;
 
 // Each line has four bytes, one more from line 10 on and again one more from line 100 on.
 #[tactic(auto, using(crate::proofs::Verdicts::output_length_lem))]
@@ -19,14 +19,13 @@ pub(crate) fn length_of(n: usize) -> usize
     4 * n + n.saturating_sub(10) + n.saturating_sub(100)
 }
 
-pub(crate) fn write(truth: &[bool; CELLS], n: usize, out: &mut [u8]) -> usize
+pub(crate) fn write(truth: &[[bool; Table::ROWS]; Sheet::LINES], n: usize, out: &mut [u8]) -> usize
     requires { (n ≤ line_limit) × (length (verdict_lines 0 (digits_of truth.now 0 n)) ≤ length out.old) }
     ensures { Written truth.now n out.old out.new result }
 {
     let mut writer = Writer::new(out);
-    // A line's number is written too, so no iterator over every 48th truth would say this more plainly.
-    for i in 0..n {
-        writer.line(i, truth[i * Table::ROWS]);
+    for (i, rows) in truth[..n].iter().enumerate() {
+        writer.line(i, rows[0]);
     }
     writer.written()
 }

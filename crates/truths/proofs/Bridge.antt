@@ -78,7 +78,7 @@ module _ (rows : Table) (lines : List Line) (spots : List Spot) (few : length li
     bridge r i p a = (to_node a, to_line a)
 
   -- what is settled over the spots is decided on the sheet's tree
-  pub decided : (truth : List Bool) → Settled rows spots truth → Decided rows lines truth
+  pub decided : (truth : List (List Bool)) → Settled rows spots truth → Decided rows lines truth
   decided truth s = record {
     decides = λ t tree p i k a h.
         let l : i < length spots = omega (arith, o.long, (tree.inside a).0) in

@@ -12,11 +12,11 @@ use Rattle.truths.specs.declared.found.Found.{Found}
 use Rattle.truths.specs.declared.spots.Spot.{Spot}
 use Rattle.truths.proofs.Says.{says_more, says_new}
 
-found_prop : (truth : List Bool) (p i : ℕ) → IsProp (FoundAt truth p i)
+found_prop : (truth : List (List Bool)) (p i : ℕ) → IsProp (FoundAt truth p i)
 found_prop truth p i = Prim.hlevel props
 
 -- what is true by T is found
-pub record ClosedBy (rows : Table) (spots : List Spot) (T : ℕ → ℕ → Type 0) (truth : List Bool) : Type 0 where
+pub record ClosedBy (rows : Table) (spots : List Spot) (T : ℕ → ℕ → Type 0) (truth : List (List Bool)) : Type 0 where
   pub closed : (p i : ℕ) → p < length spots → i < length rows → Says (spot_at spots p) T (row_at rows i) p → FoundAt truth p i
 
 module _ {rows : Table} {spots : List Spot} where
@@ -80,7 +80,7 @@ module _ {rows : Table} {spots : List Spot} where
     pub all_settled : Settled rows spots s.truth
     all_settled = record {
       decides = λ p i l m. record {
-        sound = λ e. right p i (omega arith, e);
-        complete = λ h. (says_found p i l m (holds_says h i refl l)).1;
+        sound = λ e. right p i e;
+        complete = λ h. says_found p i l m (holds_says h i refl l);
       };
     }

@@ -1,9 +1,5 @@
--- The truths found, one for each line and row: 48 for each line.
-use Rattle.std.specs.Prelude.{ℕ, ◌+◌, ◌*◌, Bool, false, List, get_or}
-use Rattle.meaning.specs.Table.{row_limit}
+-- The truths found: for each line a list with the truth of each row.
+use Rattle.std.specs.Prelude.{ℕ, Bool, false, List, [], get_or}
 
-abbrev pub cell_at : ℕ → ℕ → ℕ
-cell_at p i = p * row_limit + i
-
-abbrev pub found : List Bool → ℕ → ℕ → Bool
-found truth p i = get_or truth (cell_at p i) false
+abbrev pub found : List (List Bool) → ℕ → ℕ → Bool
+found truth p i = get_or (get_or truth p []) i false

@@ -8,5 +8,5 @@ use Rattle.sheets.specs.Tree.{At, SheetTree}
 use Rattle.sheets.specs.declared.Line.{Line}
 use Rattle.truths.specs.Cells.{found}
 
-pub record Decided (rows : Table) (lines : List Line) (truth : List Bool) : Type 0 where
+pub record Decided (rows : Table) (lines : List Line) (truth : List (List Bool)) : Type 0 where
   pub decides : (t : Tree) → SheetTree lines t → (p : Place) (i k : ℕ) → At lines i p → k < length rows → Decides (found truth i k) (TrueAt rows t k p)

@@ -28,7 +28,7 @@ Says spot True (go_row d i) p = AtNear (λ q. True q i) (near spot d)
 Says spot True (stop_row d) p = near spot d ≡ None
 
 -- Row i is there and line p is, and the row says so.
-abbrev pub SaidAt : Table → List Spot → List Bool → ℕ → ℕ → Type 0
+abbrev pub SaidAt : Table → List Spot → List (List Bool) → ℕ → ℕ → Type 0
 SaidAt rows spots truth p i = (p < length spots) × (i < length rows) × Says (spot_at spots p) (FoundAt truth) (row_at rows i) p
 
 -- What a row says at line q rests on row j at line p.
@@ -41,7 +41,7 @@ pub record RestsAt (spots : List Spot) (r : Row) (c : Cell) (q : Option ℕ) : T
   pub only : (k : ℕ) → Rests spots r k c.line c.row → q ≡ Some k
 
 -- Nothing but what is true is found.
-abbrev pub AllTrue : Table → List Spot → List Bool → Type 0
+abbrev pub AllTrue : Table → List Spot → List (List Bool) → Type 0
 AllTrue rows spots truth = (p i : ℕ) → FoundAt truth p i → HoldsAt rows spots (row_at rows i) p
 
 -- Each cell of a kind is found where what was found made its row true.
@@ -64,5 +64,5 @@ abbrev pub Resting : Table → List Spot → Cell → ℕ → ℕ → Type 0
 Resting rows spots c p i = Rests spots (row_at rows i) p c.line c.row
 
 -- At the end every row is settled at every line.
-pub record Settled (rows : Table) (spots : List Spot) (truth : List Bool) : Type 0 where
+pub record Settled (rows : Table) (spots : List Spot) (truth : List (List Bool)) : Type 0 where
   pub decides : (p i : ℕ) → p < length spots → i < length rows → Decides (found truth p i) (HoldsAt rows spots (row_at rows i) p)

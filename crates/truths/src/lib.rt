@@ -19,11 +19,8 @@ use found::Found;
 use sheets::{Line, Sheet};
 use table::{Row, Table};
 
-// One for each line and row.
-pub const CELLS: usize = Sheet::LINES * Table::ROWS;
-
-// Whether row i is true at line p stands at p * Table::ROWS + i.
-pub fn truths_of(rows: &[Row], lines: &[Line]) -> [bool; CELLS]
+// Whether each row is true at each line: a line's rows stand together.
+pub fn truths_of(rows: &[Row], lines: &[Line]) -> [[bool; Table::ROWS]; Sheet::LINES]
     requires { (length rows.now ≤ row_limit) × InRange (table_in rows.now) × (length lines.now ≤ line_limit) × FaultFree lines.now }
     ensures { Decided (table_in rows.now) lines.now result }
 {

@@ -11,5 +11,5 @@ invariant_of-asked c =
 pub returns : goal.returns
 returns c =
     let p = c.requires in
-    let settled = c.settle.ensures (λ q i f. absurd (none_found 12240 q i (rw c.new-found.ensures.0 at f))) in
+    let settled = c.settle.ensures (λ q i f. absurd (none_found q i (rw c.new-found.ensures.0 at f))) in
     decided _ c.args.lines.now _ p.2 p.3 c.spots_of-spots.ensures _ settled
