@@ -7,6 +7,7 @@ use mathlib.Core.List.{List, [], ◌∷◌, ◌++◌}
 use mathlib.Core.Path.{◌≡◌, refl, ap}
 use lib.ListN.{length, get_or, take, length-map}
 use Rattle.std.proofs.lemmas.List.Recursion.{is_sum_by}
+use Rattle.std.proofs.lemmas.List.{map_push}
 use Rattle.std.specs.Prelude.{count_by}
 use lib.Seq.{take-suc, length-take-le}
 use Rattle.meaning.specs.Table.{Table, Row, row_at, no_row, names, looks, mentioned, look}
@@ -40,6 +41,9 @@ unfolding names
 names_snoc [] r = omega arith
 names_snoc (x ∷ rows) r = omega (arith, names_snoc rows r)
 
+pub names_push : (rows : List T.Row) (r : T.Row) → names (table_in (rows ++ (r ∷ []))) ≡ max (names (table_in rows)) (mentioned (meant r))
+names_push rows r = rw (map_push meant rows r) (names_snoc (table_in rows) (meant r))
+
 pub rows_passed : (rows : List T.Row) (i : ℕ) → i ≤ length rows → length (take i (table_in rows)) ≡ i
 rows_passed rows i h = length-take-le i (table_in rows) (simp length-map h)
 
@@ -62,9 +66,6 @@ module _ (rows : List T.Row) (d : T.Row) (i : ℕ) (inside : i < length rows) wh
 
   pub looks_next : looks (take (i + 1) (table_in rows)) ≡ looks (take i (table_in rows)) + look (meant (get_or rows i d))
   looks_next = rw table_next (looks_snoc (take i (table_in rows)) (meant (get_or rows i d)))
-
-  pub names_next : names (take (i + 1) (table_in rows)) ≡ max (names (take i (table_in rows))) (mentioned (meant (get_or rows i d)))
-  names_next = rw table_next (names_snoc (take i (table_in rows)) (meant (get_or rows i d)))
 
   pub looks_more : true ≡ is_look (get_or rows i d) → looks (take (i + 1) (table_in rows)) ≡ looks (take i (table_in rows)) + 1
   looks_more e = let one = look_is (get_or rows i d) in rw looks_next (rw (one, ← e))

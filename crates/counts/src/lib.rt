@@ -1,5 +1,7 @@
 #![tactic(auto)]
 
+// What is counted in a table: N, m, and which bit is which `go` row's.
+// At most 48 rows is what three functions ask, and no struct's fact, which would put a field's name into every clause over rows here and above.
 ghost use Rattle.std.specs.Prelude.{◌≡◌, suc, ◌<◌, ◌≤◌, length};
 ghost use Rattle.meaning.specs.Table.{row_limit, names, looks, size, mentioned, look};
 ghost use Rattle.table.specs.Rows.{meant, table_in};
@@ -8,15 +10,11 @@ ghost use Rattle.counts.specs.Counts.{is_look, Places, LookRows};
 use table::{Row, Table};
 
 // N: one more than the largest name mentioned, in used rows and in others, and 1 if there is none.
-#[tactic(auto, using(crate::proofs::Laws::names_next), unfolding(meaning::specs::Table::names))]
 pub fn names_of(rows: &[Row]) -> usize
     ensures { (result ≡ names (table_in rows.now)) × (result ≤ 256) }
 {
-    let mut most: usize = 1;
-    for row in rows {
-        most = most.max(mentioned_in(*row));
-    }
-    most
+    rows.iter()
+        .fold(1, |most, row| most.max(mentioned_in(*row)))
 }
 
 // N of a table that mentions no name but this row's.
@@ -58,11 +56,12 @@ pub fn places_of(rows: &[Row]) -> [u8; Table::ROWS]
     ensures { Places (table_in rows.now) result }
 {
     let mut places = [0u8; Table::ROWS];
-    let mut found: u8 = 0;
+    let mut passed: u8 = 0;
+    // By index: after a `zip` of `places.iter_mut()` a proof knows nothing of what was written.
     for (i, row) in rows.iter().enumerate() {
-        places[i] = found;
+        places[i] = passed;
         if is_look(*row) {
-            found += 1;
+            passed += 1;
         }
     }
     places
@@ -73,13 +72,13 @@ pub fn look_rows_of(rows: &[Row]) -> [u8; Table::ROWS]
     requires { length rows.now ≤ row_limit }
     ensures { LookRows (table_in rows.now) result }
 {
-    let mut found = [0u8; Table::ROWS];
+    let mut look_rows = [0u8; Table::ROWS];
     let mut m: usize = 0;
     for (i, row) in rows.iter().enumerate() {
         if is_look(*row) {
-            found[m] = i as u8;
+            look_rows[m] = i as u8;
             m += 1;
         }
     }
-    found
+    look_rows
 }

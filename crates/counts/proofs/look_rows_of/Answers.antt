@@ -17,10 +17,10 @@ loop-i-preserved c =
     let s : l.i < length rows = omega arith in
     elim c.if-is_look.branch [
       | then-is_look w ↦
-          let h : l.m < length l.found = omega arith in
+          let h : l.m < length l.look_rows = omega arith in
           let e = w.if-is_look.ensures in
-          rw (w.found-is, w.m-is) (omega (arith, looks_more rows _ l.i s e), omega arith, simp length-set l.invariant.2, found_next rows _ l.found l.i l.m s l.invariant.0 l.invariant.3 e h)
+          rw (w.look_rows-is, w.m-is) (omega (arith, looks_more rows _ l.i s e), omega arith, simp length-set l.invariant.2, found_next rows _ l.look_rows l.i l.m s l.invariant.0 l.invariant.3 e h)
       | else-is_look w ↦
           let e = w.if-is_look.ensures in
-          rw (w.found-is, w.m-is) (omega (arith, looks_kept rows _ l.i s e), omega arith, l.invariant.2, found_not rows _ l.found l.i l.m s l.invariant.0 l.invariant.3 e)
+          rw (w.look_rows-is, w.m-is) (omega (arith, looks_kept rows _ l.i s e), omega arith, l.invariant.2, found_not rows _ l.look_rows l.i l.m s l.invariant.0 l.invariant.3 e)
     ]

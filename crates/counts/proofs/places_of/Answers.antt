@@ -16,7 +16,7 @@ loop-i-preserved c =
     let l = c.loop-i in
     let s : l.i < length c.args.rows.now = omega arith in
     let h : l.i < length l.places = omega arith in
-    let p = places_next c.args.rows.now No l.places l.i l.found s l.invariant.0 l.invariant.3 h in
+    let p = places_next c.args.rows.now No l.places l.i l.passed s l.invariant.0 l.invariant.3 h in
     elim c.if-is_look.branch [
       | then-is_look w ↦ (omega (arith, looks_more c.args.rows.now _ l.i s w.if-is_look.ensures), omega arith, simp length-set l.invariant.2, p)
       | else-is_look w ↦ (omega (arith, looks_kept c.args.rows.now _ l.i s w.if-is_look.ensures), omega arith, simp length-set l.invariant.2, p)

@@ -6,4 +6,4 @@ use Rattle.counts.specs.Counts.{Places}
 use Rattle.counts.proofs.places_of.Given as goal
 
 abbrev pub invariant-loop-i : goal.invariant-loop-i
-invariant-loop-i l = (l.found ≡ looks (take l.i (table_in l.rows))) × (l.found ≤ l.i) × (length l.places ≡ 48) × Places (take l.i (table_in l.rows)) l.places
+invariant-loop-i l = (l.passed ≡ looks (take l.i (table_in l.rows))) × (l.passed ≤ l.i) × (length l.places ≡ 48) × Places (take l.i (table_in l.rows)) l.places
