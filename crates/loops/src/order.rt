@@ -16,8 +16,8 @@ pub(crate) fn order_of(pairs: &Pairs) -> [u8; Table::ROWS]
 {
     let n = pairs.rows.len();
     let mut order = [0u8; Table::ROWS];
-    for (i, row) in order[..n].iter_mut().enumerate() {
-        *row = i as u8;
+    for (i, place) in order[..n].iter_mut().enumerate() {
+        *place = i as u8;
     }
     order[..n].sort_unstable_by_key(|i| pairs.reach(usize::from(*i)));
     order
@@ -28,6 +28,9 @@ impl Pairs<'_> {
     fn reach(&self, i: usize) -> usize
         ensures { result ≡ reach (length self.now.rows.now) self.now.found i }
     {
-        (0..self.rows.len()).filter(|j| self.joined(i, *j)).count()
+        let n = self.rows.len();
+        self.found
+            .get(i)
+            .map_or(0, |row| row[..n].iter().filter(|joined| **joined).count())
     }
 }

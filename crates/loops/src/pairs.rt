@@ -27,6 +27,7 @@ impl<'a> Pairs<'a> {
             rows,
             found: [[false; Table::ROWS]; Table::ROWS],
         };
+        // It ends when a pass finds nothing new.
         while pairs.pass() {}
         pairs
     }
@@ -36,6 +37,7 @@ impl<'a> Pairs<'a> {
         ensures { (self.new.rows.now ≡ self.old.rows.now) × Passed (AllDone (table_in self.old.rows.now)) self.old.found self.new.found result }
     {
         let mut more = false;
+        // By index: a pair is two row numbers, and settling it writes.
         for i in 0..self.rows.len() {
             for j in 0..self.rows.len() {
                 more |= self.settle(i, j);
@@ -68,6 +70,7 @@ impl<'a> Pairs<'a> {
     pub(crate) fn first_looping(&self) -> Option<usize>
         ensures { result ≡ first_marked (length self.now.rows.now) self.now.found }
     {
+        // By index: what is looked at is the diagonal of the square.
         (0..self.rows.len()).find(|i| self.joined(*i, *i))
     }
 }

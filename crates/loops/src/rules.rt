@@ -38,6 +38,7 @@ impl Pairs<'_> {
         requires { (i < length self.now.rows.now) × (j < length self.now.rows.now) }
         ensures { result ≡ meets (length self.now.rows.now) self.now.found i j }
     {
+        // By index: a row of the square is held against a column.
         (0..self.rows.len()).any(|k| self.joined(i, k) && self.joined(k, j))
     }
 }

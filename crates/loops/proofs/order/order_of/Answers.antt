@@ -14,9 +14,9 @@ returns c =
     let p = c.args.pairs.now in
     let rows = table_in p.rows.now in
     let n = length p.rows.now in
-    let numbers = c.loop-i.row-items in
+    let numbers = c.loop-i.place-items in
     let s = c.sort_unstable_by_key in
-    let long : length numbers ≡ n = c.loop-i.auto.row-items ∙ length-take-le n (replicate row_limit 0) p.few in
+    let long : length numbers ≡ n = c.loop-i.auto.place-items ∙ length-take-le n (replicate row_limit 0) p.few in
     ordered_rows rows p.found p.in_range (marks_of rows p.in_range p.found p.sound) c.requires.1 c.requires.0
     row_limit n (sym (table_long p.rows.now)) numbers s.new.self long
     (λ k h. c.loop-i.invariant k (omega (arith, long, c.loop-i-test.false)))

@@ -3,4 +3,4 @@ use Rattle.std.proofs.Common.{◌≡◌, ◌<◌, ℕ, get_or}
 use Rattle.loops.proofs.order.order_of.Given as goal
 
 abbrev pub invariant-loop-i : goal.invariant-loop-i
-invariant-loop-i l = (k : ℕ) → k < l.i → get_or l.row-items k 0 ≡ k
+invariant-loop-i l = (k : ℕ) → k < l.i → get_or l.place-items k 0 ≡ k
