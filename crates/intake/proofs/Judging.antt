@@ -7,7 +7,6 @@ use Rattle.std.specs.Prelude.{Ok, Err}
 use Rattle.table.specs.Rows.{rows_of}
 use Rattle.table.specs.declared.Table.{Table}
 use Rattle.table.specs.declared.refusal.Refusal.{Refusal}
-use Rattle.table.specs.declared.refusal.Refusal.TheVariants as R
 use Rattle.reader.specs.Reading.{Answers}
 use Rattle.loops.specs.Faults.{as_refusal}
 use Rattle.loops.specs.Handed.{checked}
@@ -31,11 +30,10 @@ module _ {text : List ℕ} where
     not_loaded (F.Large order) e q j = rw q (record { takes = judged a.reads j refl; counted = tt })
 
     -- and what `admit` says, which lets a table of any size pass
-    pub not_there : (f : Fault) (i : ℕ) → f ≡ F.Missing i → Judged (table (rows_of t)) (checked (Err f)) → Answered false text (Err (R.Missing i))
-    not_there f i q j = record { takes = judged a.reads (rw q at j) refl; counted = tt }
-
-    pub on_loop : (f : Fault) (i : ℕ) → f ≡ F.Looping i → Judged (table (rows_of t)) (checked (Err f)) → Answered false text (Err (R.Looping i))
-    on_loop f i q j = record { takes = judged a.reads (rw q at j) refl; counted = tt }
+    pub not_admitted : (f : Fault) (e : Refusal) → ((order : List ℕ) → f ≡ F.Large order → ⊥) → e ≡ as_refusal f → Judged (table (rows_of t)) (checked (Err f)) → Answered false text (Err e)
+    not_admitted (F.Missing i) e n q j = rw q (record { takes = judged a.reads j refl; counted = tt })
+    not_admitted (F.Looping i) e n q j = rw q (record { takes = judged a.reads j refl; counted = tt })
+    not_admitted (F.Large order) e n q j = absurd (n order refl)
 
     pub large_passed : (f : Fault) (order : List ℕ) → f ≡ F.Large order → Judged (table (rows_of t)) (checked (Err f)) → Answered false text (Ok (record { table = t; order = order }))
     large_passed f order q j = record { takes = judged a.reads (rw q at j) refl; counted = a.counted }

@@ -22,7 +22,7 @@ pub fn load(text: &[u8]) -> Result<Loaded, Refusal>
     ensures answered { Answered true text.now result }
     ensures order { IfOk result (λ l. Ordered (table_of l.table) l.order) }
 {
-    let table = reader::read_text(text)?;
+    let table: Table = reader::read_text(text)?;
     let order = loops::check(table)?;
     Ok(Loaded { table, order })
 }
@@ -32,10 +32,13 @@ pub fn admit(text: &[u8]) -> Result<Loaded, Refusal>
     ensures answered { Answered false text.now result }
     ensures order { IfOk result (λ l. Ordered (table_of l.table) l.order) }
 {
-    let read = reader::read_text(text)?;
-    match loops::check(read) {
-        Ok(order) | Err(Fault::Large(order)) => Ok(Loaded { table: read, order }),
-        Err(Fault::Missing(i)) => Err(Refusal::Missing(i)),
-        Err(Fault::Looping(i)) => Err(Refusal::Looping(i)),
+    let table = reader::read_text(text)?;
+    match loops::check(table) {
+        Ok(order) => Ok(Loaded { table, order }),
+        // A `match` of its own: after `Err(Fault::Large(order))` above, a proof would not know that this fault is another.
+        Err(fault) => match fault {
+            Fault::Large(order) => Ok(Loaded { table, order }),
+            _ => Err(fault.into()),
+        },
     }
 }
