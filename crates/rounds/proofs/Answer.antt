@@ -1,11 +1,11 @@
 -- From the rounds to the answer: the cleared slices are those before round 1, and what the rounds and the marks leave is the outcome.
-use Prim.Native.Nat.{ℕ, ◌<◌}
+use Prim.Native.Nat.{ℕ, ◌<◌, ◌≤◌}
 use native.Mathlib.Omega.{arith}
 use mathlib.Core.List.{List}
 use mathlib.Core.Path.{◌≡◌, refl, sym, subst}
-use lib.ListN.{get_or}
+use lib.ListN.{get_or, length}
 use Rattle.meaning.specs.Code.{codes}
-use Rattle.meaning.specs.Outcome.{recorded, absent, Accepted, Searched, is_sat, is_unsat}
+use Rattle.meaning.specs.Outcome.{Slices, recorded, absent, Accepted, Searched, is_sat, is_unsat}
 use Rattle.meaning.specs.Table.{Side, first, next, Table}
 use Rattle.meaning.proofs.Outcome.Conclude.{conclude_sat, conclude_unsat}
 use Rattle.meaning.proofs.Sides.{sides}
@@ -13,9 +13,10 @@ use Rattle.rounds.specs.Ended.{Before, EndsAs, Ended}
 use Rattle.rounds.specs.Found.{Answered}
 use Rattle.rounds.specs.Kept.{lent, Kept, KeptAll, Cleared}
 use Rattle.rounds.specs.Room.{Room}
-use Rattle.rounds.specs.Round.{running}
+use Rattle.rounds.specs.Round.{running, run}
 use Rattle.rounds.specs.Used.{Linked, Used}
 use Rattle.rounds.specs.declared.Found.{Found}
+use Rattle.rounds.specs.declared.lent.Lent.{Lent}
 use Rattle.rounds.specs.declared.Found.TheVariants.{Sat, Unsat}
 use Rattle.rounds.proofs.Marks.{used_same, linked}
 use Rattle.rounds.proofs.Places.{cleared-below, kept_cleared, kept_same, all_kept, all_then}
@@ -39,13 +40,13 @@ module _ {c : ℕ} {r f n u r₁ f₁ n₁ u₁ : List ℕ} (d : Cleared c (lent
   pub none_used : (i : ℕ) → i < c → get_or u₁ i 0 ≡ 0
   none_used i l = rw d.no_used (cleared-below 0 c u i l)
 
-  module _ (room : Room c r f n u) where
+  module _ (room : Room c r f n) (room_used : c ≤ length u) where
     all_cleared : KeptAll c (lent r f n u) (lent r₁ f₁ n₁ u₁)
     all_cleared = all_kept
         (kept_cleared 0 d.no_round room.room_round)
         (kept_cleared absent d.no_first room.room_first)
         (kept_cleared absent d.no_next room.room_next)
-        (kept_cleared 0 d.no_used room.room_used)
+        (kept_cleared 0 d.no_used room_used)
 
     -- what the rounds and the marks leave
     module _ {rows : Table} (a : Accepted rows) (count : c ≡ codes rows) {found : Found} {r₂ f₂ n₂ : List ℕ} (e : Ended rows found (running r₁ f₁ n₁) (running r₂ f₂ n₂)) where
@@ -74,3 +75,14 @@ module _ {c : ℕ} {r f n u r₁ f₁ n₁ u₁ : List ℕ} (d : Cleared c (lent
         outcome = is_unsat (conclude_unsat a (lent r₂ f₂ n₂ u₁) k (with_used w.searched) (with_used w.ended) (λ t l p g. omega (arith, w.none_good t l g)) w.each_round (λ t l. none_used t (rw count l)));
         kept = rw count at (all_kept_by kept_same);
       })
+
+-- the lent slices hold what the rounds left in them
+module _ {r f n : List ℕ} (m : Lent) (a : r ≡ m.round.now) (b : f ≡ m.first.now) (d : n ≡ m.next.now) where
+  pub linked_here : {c : ℕ} → Linked c (run m) → Linked c (running r f n)
+  linked_here x = rw (a, b, d) x
+
+  pub used_here : {c top : ℕ} {old new : List ℕ} → Used c (running r f n) top old new → Used c (run m) top old new
+  used_here x = rw (a, b, d) at x
+
+  pub answers_here : {rows : Table} {found : Found} {old : Slices} {u : List ℕ} → Answered rows found old (lent m.round.now m.first.now m.next.now u) → Answered rows found old (lent r f n u)
+  answers_here x = rw (a, b, d) x

@@ -6,7 +6,7 @@ use mathlib.Core.Path.{◌≡◌, refl, ap, ◌∙◌}
 use lib.ListN.{get_or, length, set, replicate, drop, length-append, length-replicate, length-drop, length-set, get_or-replicate, get_or-append}
 use lib.Seq.{get_or-append-add, get_or-drop, get_or-set_other}
 use Rattle.meaning.specs.Outcome.{Slices}
-use Rattle.rounds.specs.Kept.{cleared, lent, SameLent, UsedStays, Kept, KeptAll}
+use Rattle.rounds.specs.Kept.{cleared, lent, SameLent, Kept, KeptAll}
 use Rattle.rounds.specs.declared.lent.Lent.{Lent}
 
 module _ (v c : ℕ) (old : List ℕ) where
@@ -49,21 +49,14 @@ module _ {c : ℕ} where
     kept_used = kept_then p.kept_used q.kept_used;
   }
 
--- the same memory, and what the rounds leave of it alone
-pub still : {m : Lent} → SameLent m m
-still = record { same_round = refl; same_first = refl; same_next = refl; same_used = refl; same_codes = refl }
-
+-- the same memory
 pub same_then : {a b d : Lent} → SameLent a b → SameLent b d → SameLent a d
 same_then p q = record {
   same_round = q.same_round ∙ p.same_round;
   same_first = q.same_first ∙ p.same_first;
   same_next = q.same_next ∙ p.same_next;
-  same_used = q.same_used ∙ p.same_used;
   same_codes = q.same_codes ∙ p.same_codes;
 }
 
-pub untouched : {m : Lent} → UsedStays m m
-untouched = record { same = still; used_stays = refl }
-
-pub stays_then : {a b d : Lent} → UsedStays a b → UsedStays b d → UsedStays a d
-stays_then p q = record { same = same_then p.same q.same; used_stays = q.used_stays ∙ p.used_stays }
+pub still : {m : Lent} → SameLent m m
+still = record { same_round = refl; same_first = refl; same_next = refl; same_codes = refl }

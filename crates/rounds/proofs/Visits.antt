@@ -15,7 +15,7 @@ use Rattle.rounds.specs.Round.{running, Settles, Stuck, Halfway, Visited}
 use Rattle.rounds.proofs.Halfway.{was_there, improper, stuck, enters_here, enter}
 use Rattle.rounds.proofs.Places.{all_same, all_kept, kept_same, kept_store}
 
-module _ {rows : Table} (a : Accepted rows) {c k t : ℕ} (count : c ≡ codes rows) {r f n u : List ℕ} (room : Room c r f n u) (l : t < c) (h : Halfway rows k t (running r f n)) where
+module _ {rows : Table} (a : Accepted rows) {c k t : ℕ} (count : c ≡ codes rows) {r f n : List ℕ} (room : Room c r f n) (l : t < c) (h : Halfway rows k t (running r f n)) where
   is_code : t < codes rows
   is_code = rw count at l
 

@@ -2,6 +2,7 @@
 use Rattle.std.specs.Prelude.{ℕ, ◌≤◌, List, ◌++◌, ◌≡◌, get_or, length, replicate, drop}
 use Rattle.meaning.specs.Outcome.{Slices, absent}
 use Rattle.rounds.specs.declared.lent.Lent.{Lent}
+use Rattle.rounds.specs.declared.memory.Memory.{Memory}
 
 -- What a slice is after its first c places are cleared to v.
 abbrev pub cleared : {A : Type 0} → A → ℕ → List A → List A
@@ -12,21 +13,23 @@ abbrev pub lent : List ℕ → List ℕ → List ℕ → List ℕ → Slices
 lent round firsts nexts used = record { round = round; firsts = firsts; nexts = nexts; used = used }
 
 -- What the four slices hold.
-abbrev pub held : Lent → Slices
-held l = lent l.round.now l.first.now l.next.now l.used.now
+abbrev pub held : Memory → Slices
+held m = lent m.round.now m.first.now m.next.now m.used.now
+
+-- The same three slices are lent to the rounds.
+pub record SameLent (old new : Lent) : Type 0 where
+  pub same_round : new.round.ghost_name ≡ old.round.ghost_name
+  pub same_first : new.first.ghost_name ≡ old.first.ghost_name
+  pub same_next : new.next.ghost_name ≡ old.next.ghost_name
+  pub same_codes : new.codes ≡ old.codes
 
 -- The same four slices are lent.
-pub record SameLent (old new : Lent) : Type 0 where
+pub record SameMemory (old new : Memory) : Type 0 where
   pub same_round : new.round.ghost_name ≡ old.round.ghost_name
   pub same_first : new.first.ghost_name ≡ old.first.ghost_name
   pub same_next : new.next.ghost_name ≡ old.next.ghost_name
   pub same_used : new.used.ghost_name ≡ old.used.ghost_name
   pub same_codes : new.codes ≡ old.codes
-
--- `used` is as it was: the rounds have no part in it.
-pub record UsedStays (old new : Lent) : Type 0 where
-  pub same : SameLent old new
-  pub used_stays : new.used.now ≡ old.used.now
 
 -- All four slices cleared: no code is entered, none has a neighbour, none is used.
 pub record Cleared (c : ℕ) (old new : Slices) : Type 0 where

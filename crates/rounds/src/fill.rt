@@ -1,13 +1,13 @@
 // What an earlier call left in the lent memory goes, before the rounds begin.
-ghost use Rattle.rounds.specs.Kept.{held, Cleared, SameLent};
+ghost use Rattle.rounds.specs.Kept.{held, Cleared, SameMemory};
 
 use crate::NONE;
-use crate::lent::Lent;
+use crate::memory::Memory;
 
-impl Lent<'_> {
+impl Memory<'_> {
     // Nothing of an earlier call is left where this one will look, and nothing beyond is touched.
     pub(crate) fn clear(&mut self)
-        ensures { Cleared self.old.codes (held self.old) (held self.new) × SameLent self.old self.new }
+        ensures { Cleared self.old.codes (held self.old) (held self.new) × SameMemory self.old self.new }
     {
         let c = self.codes;
         self.round[..c].fill(0);

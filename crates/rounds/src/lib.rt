@@ -1,9 +1,11 @@
 #![tactic(auto)]
 
+// The search: codes are entered round after round, and the first round with a good code, or with none at all, gives the answer.
 mod enter;
 mod fill;
 mod given;
-pub mod lent;
+mod lent;
+pub mod memory;
 mod scan;
 mod see;
 mod tree;
@@ -13,7 +15,7 @@ ghost use Rattle.std.specs.Prelude.{◌≡◌};
 ghost use Rattle.meaning.specs.Code.{codes};
 ghost use Rattle.meaning.specs.Outcome.{Accepted};
 ghost use Rattle.table.specs.Rows.{table_in};
-ghost use Rattle.rounds.specs.Kept.{held, SameLent, UsedStays};
+ghost use Rattle.rounds.specs.Kept.{held, SameLent, SameMemory};
 ghost use Rattle.rounds.specs.Round.{run};
 ghost use Rattle.rounds.specs.Ended.{TopIs, Before, Ended};
 ghost use Rattle.rounds.specs.Found.{Answered};
@@ -23,6 +25,7 @@ use codes::layout::Layout;
 use codes::seen::{Seen, UNSEEN};
 use given::Given;
 use lent::Lent;
+use memory::Memory;
 use tree::Tree;
 
 // What stands where there is no neighbour: this is never a proper code. It is no Option, since first and next are lent by C as numbers.
@@ -41,22 +44,22 @@ pub enum Found {
 
 impl Given<'_> {
     // The smallest good code of a round, if there is one.
-    fn top_of(&self, memory: &Lent, k: u16) -> Option<usize>
-        ensures { TopIs (table_given self.now) memory.now.codes memory.now.round.now k result }
+    fn top_of(&self, lent: &Lent, k: u16) -> Option<usize>
+        ensures { TopIs (table_given self.now) lent.now.codes lent.now.round.now k result }
     {
-        (0..memory.codes).find(|t| memory.round[*t] == k && self.seen.good(*t))
+        (0..lent.codes).find(|t| lent.round[*t] == k && self.seen.good(*t))
     }
 
     // Round after round, to the first that enters a good code or that enters nothing.
-    #[tactic(auto, using(crate::proofs::Whole::few, crate::proofs::Whole::ends, crate::proofs::Whole::exhausted, crate::proofs::Places::all_then, crate::proofs::Places::stays_then, crate::proofs::Neighbours::few_codes))]
-    fn all_rounds(&self, memory: &mut Lent) -> Found
-        requires { (memory.old.codes ≡ codes (table_given self.now)) × Before (table_given self.now) 1 (run memory.old) }
-        ensures { Ended (table_given self.now) result (run memory.old) (run memory.new) × UsedStays memory.old memory.new }
+    #[tactic(auto, using(crate::proofs::Whole::few, crate::proofs::Whole::ends, crate::proofs::Whole::exhausted, crate::proofs::Places::all_then, crate::proofs::Places::same_then, crate::proofs::Neighbours::few_codes))]
+    fn all_rounds(&self, lent: &mut Lent) -> Found
+        requires { (lent.old.codes ≡ codes (table_given self.now)) × Before (table_given self.now) 1 (run lent.old) }
+        ensures { Ended (table_given self.now) result (run lent.old) (run lent.new) × SameLent lent.old lent.new }
     {
         // No range: which round is the last is known only when it is over.
         let mut k: u16 = 1;
-        while self.one_round(memory, k) {
-            if let Some(t) = self.top_of(memory, k) {
+        while self.one_round(lent, k) {
+            if let Some(t) = self.top_of(lent, k) {
                 return Found::Sat {
                     height: k,
                     top: t as u16,
@@ -69,35 +72,44 @@ impl Given<'_> {
 }
 
 // The truths that are asked for are worked out before the first round, once for each code that there is memory for.
-fn seen_rounds(layout: Layout, memory: &mut Lent) -> Found
-    requires { Accepted (table_in layout.looks.rows.now) × (memory.old.codes ≡ codes (table_in layout.looks.rows.now)) × Before (table_in layout.looks.rows.now) 1 (run memory.old) }
-    ensures { Ended (table_in layout.entry.looks.rows.now) result (run memory.old) (run memory.new) × UsedStays memory.old memory.new }
+fn seen_rounds(layout: Layout, lent: &mut Lent) -> Found
+    requires { Accepted (table_in layout.looks.rows.now) × (lent.old.codes ≡ codes (table_in layout.looks.rows.now)) × Before (table_in layout.looks.rows.now) 1 (run lent.old) }
+    ensures { Ended (table_in layout.entry.looks.rows.now) result (run lent.old) (run lent.new) × SameLent lent.old lent.new }
 {
     let mut kept = [UNSEEN; KEPT];
-    let sights = &mut kept[..memory.codes.min(KEPT)];
+    let sights = &mut kept[..lent.codes.min(KEPT)];
     see::see_all(&layout, sights);
     let seen = Seen { layout, sights };
-    Given { seen }.all_rounds(memory)
+    Given { seen }.all_rounds(lent)
 }
 
-// Fills the four slices for an accepted table, and answers.
-pub fn search(layout: Layout, memory: &mut Lent) -> Found
+// Fills the four slices for an accepted table, and answers. That it is accepted stays a clause: Given, which holds the fact, is made only when
+// the truths are kept, and a caller has none.
+pub fn search(layout: Layout, memory: &mut Memory) -> Found
     requires { Accepted (table_in layout.looks.rows.now) × (memory.old.codes ≡ codes (table_in layout.looks.rows.now)) }
-    ensures { Answered (table_in layout.entry.looks.rows.now) result (held memory.old) (held memory.new) × SameLent memory.old memory.new }
+    ensures { Answered (table_in layout.entry.looks.rows.now) result (held memory.old) (held memory.new) × SameMemory memory.old memory.new }
 {
     memory.clear();
-    let found = seen_rounds(layout, memory);
+    let codes = memory.codes;
+    let round = &mut *memory.round;
+    let first = &mut *memory.first;
+    let next = &mut *memory.next;
+    let used = &mut *memory.used;
+    let mut lent = Lent {
+        round: &mut *round,
+        first: &mut *first,
+        next: &mut *next,
+        codes,
+    };
+    let found = seen_rounds(layout, &mut lent);
     if let Found::Sat { height, top } = found {
-        let round = &mut *memory.round;
-        let first = &mut *memory.first;
-        let next = &mut *memory.next;
         let tree = Tree {
             round,
             first,
             next,
-            codes: memory.codes,
+            codes,
         };
-        tree.mark_used(memory.used, height, top);
+        tree.mark_used(used, height, top);
     }
     found
 }

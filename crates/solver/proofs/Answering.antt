@@ -18,7 +18,7 @@ use Rattle.codes.proofs.LaidOut.{looking}
 use Rattle.rounds.specs.Found.{verdict_of, Answered}
 use Rattle.rounds.specs.Kept.{lent, held}
 use Rattle.rounds.specs.declared.Found.{Found}
-use Rattle.rounds.specs.declared.lent.Lent.{Lent}
+use Rattle.rounds.specs.declared.memory.Memory.{Memory}
 use Rattle.solver.specs.Solved.{Room, numbered, Answers}
 
 few_rows : (rows : List Row) → Accepted (table_in rows) → length rows ≤ 48
@@ -46,6 +46,6 @@ module _ (n : ℕ) (rows : Table) {r f d u : List ℕ} (e : n ≡ size rows) whe
   no_room_in l m = let c = counted n rows e in omega (arith, m.in_round, m.in_recorded first, m.in_recorded next, m.in_used)
 
 -- what the search answered, in the slices that were lent
-pub finished : {rows : Table} {found : Found} {old : Slices} {r f n u : List ℕ} (m : Lent) → r ≡ m.round.now → f ≡ m.first.now → n ≡ m.next.now → u ≡ m.used.now
+pub finished : {rows : Table} {found : Found} {old : Slices} {r f n u : List ℕ} (m : Memory) → r ≡ m.round.now → f ≡ m.first.now → n ≡ m.next.now → u ≡ m.used.now
     → Answered rows found old (held m) → Answers rows old (lent r f n u) (numbered (verdict_of found))
 finished {found = found} m a b d e x = rw (a, b, d, e) (record { verdict = verdict_of found; outcome = x.outcome; kept = x.kept; numbers = refl })

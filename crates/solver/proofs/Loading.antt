@@ -1,6 +1,5 @@
 -- What a loaded text gives the rest of a call: a refusal, or an accepted table.
 use Prim.Native.Nat.{ℕ, ◌*◌, ◌^◌}
-use native.Mathlib.Omega.{arith}
 use mathlib.Core.Bool.{true}
 use mathlib.Core.List.{List}
 use mathlib.Core.Path.{◌≡◌, refl, ◌∙◌, ap}

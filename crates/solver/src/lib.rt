@@ -8,7 +8,7 @@ ghost use Rattle.rounds.specs.Kept.{lent};
 ghost use Rattle.solver.specs.Solved.{Says, numbered, reply_of, Replies, Solved, NameWidth};
 
 use rounds::Found;
-use rounds::lent::Lent;
+use rounds::memory::Memory;
 use table::refusal::Refusal;
 
 // What crosses to another language: verdict 0 refused, 1 SAT, 2 UNSAT; with UNSAT `height` holds the rounds.
@@ -85,7 +85,7 @@ pub fn reply(
     if shortest < codes {
         return Err(Refusal::NoRoom);
     }
-    let mut memory = Lent {
+    let mut memory = Memory {
         round,
         first,
         next,
@@ -95,7 +95,8 @@ pub fn reply(
     Ok(search::search_rows(rows, &loaded.order, &mut memory))
 }
 
-// How many codes a name has: a code's name is the code divided by it. 0 where the text is refused.
+// How many codes a name has: a code's name is the code divided by it. 0 where the text is refused, and no Option: the promise NameWidth, which
+// may not change, says that number.
 pub fn name_width(text: &[u8]) -> usize
     ensures { NameWidth text.now result }
 {

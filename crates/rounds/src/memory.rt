@@ -1,0 +1,15 @@
+// The memory that a call lends, used in its first C places.
+ghost use Rattle.std.specs.Prelude.{◌≤◌, length};
+ghost use Rattle.rounds.specs.Room.{Room};
+
+// One place for each code: its round, its two neighbours, and whether it is used.
+#[derive(Drop)]
+pub struct Memory<'a> {
+    pub round: &'a mut [u16],
+    pub first: &'a mut [u16],
+    pub next: &'a mut [u16],
+    pub used: &'a mut [u8],
+    pub codes: usize,
+    pub ghost room: { Room codes round.now first.now next.now },
+    pub ghost room_used: { codes ≤ length used.now },
+}
