@@ -63,7 +63,7 @@ pub fn judge_texts(table: &[u8], sheet: &[u8], out: &mut [u8]) -> Result<usize, 
     judge_lines(loaded.table.rows(), sheet.lines(), out)
 }
 
-// The memory is tested before anything is worked out, so that a refusal costs nothing.
+// The memory is tested before anything is worked out, so that a refusal costs nothing. `Ready` is asked here alone, so no struct holds it.
 fn judge_lines(rows: &[Row], lines: &[Line], out: &mut [u8]) -> Result<usize, Refusal>
     requires { Ready rows.now lines.now }
     ensures judges { JudgesLines (table_in rows.now) lines.now out.old out.new (judged_of result) }

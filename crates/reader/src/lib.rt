@@ -11,6 +11,7 @@ mod lines;
 pub mod rest;
 
 // Each line is read where the one before it ended; the first faulty one ends the reading.
+// Not one loop with that of a sheet's lines: blank, limit, what reads one, what is refused and where all differ, and here rows have a further test.
 #[tactic(auto, using(crate::proofs::Tables::steps))]
 pub fn read_text(text: &[u8]) -> Result<Table, Refusal>
     ensures { Answers text.now result }

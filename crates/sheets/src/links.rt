@@ -6,7 +6,7 @@ ghost use Rattle.sheets.specs.Counting.{wrong, wrong_in, names_by, names_in, tim
 
 use crate::Line;
 
-// The smallest faulty line, where there is one.
+// The smallest faulty line, where there is one. By index: a test of line i reads all the lines and i, so `position` over `enumerate` would ask for no less.
 pub(crate) fn first_faulty(lines: &[Line]) -> Option<usize>
     ensures { MatchOption result (FaultFree lines.now) (SmallestFaulty lines.now) }
 {

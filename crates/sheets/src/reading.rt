@@ -6,6 +6,7 @@ use reader::rest::Rest;
 use table::refusal::Refusal;
 
 // Each line is read where the one before it ended; the first faulty one ends the reading.
+// Not one loop with the reader's of rows: blank, limit, what reads one, what is refused and where all differ, and a row has a further test.
 #[tactic(auto, using(crate::proofs::Sheets::steps))]
 pub(crate) fn read_text(text: &[u8]) -> Result<Sheet, Refusal>
     ensures { Answers text.now result }
@@ -20,9 +21,7 @@ pub(crate) fn read_text(text: &[u8]) -> Result<Sheet, Refusal>
         if n == Sheet::LINES {
             return Err(Refusal::MalformedLine(Sheet::LINES));
         }
-        let Some(line) = lines::read_line(&mut rest) else {
-            return Err(Refusal::MalformedLine(n));
-        };
+        let line = lines::read_line(&mut rest).ok_or(Refusal::MalformedLine(n))?;
         sheet = sheet.with_line(line);
     }
     Ok(sheet)
