@@ -24,19 +24,6 @@ pub struct Judged {
     pub place: u32,
 }
 
-impl From<Refusal> for Judged {
-    ghost from_gives = { λ refusal judged. place_of refusal ≤ line_limit → judged ≡ judged_of (Err refusal) };
-
-    // A place is a row's or a line's number, so it fits.
-    fn from(refusal: Refusal) -> Judged {
-        Judged {
-            written: 0,
-            refusal: refusal.number(),
-            place: u32::try_from(refusal.place()).unwrap_or(0),
-        }
-    }
-}
-
 // The most bytes that are written: 10 lines of 4 bytes, 90 of 5 and 155 of 6.
 pub const OUTPUT: usize = 1420;
 
@@ -49,7 +36,12 @@ pub fn judge(table: &[u8], sheet: &[u8], out: &mut [u8]) -> Judged
             refusal: 0,
             place: 0,
         },
-        Err(refusal) => Judged::from(refusal),
+        // No From: a place is a usize, which any caller may have made large. Those of `judge_texts` are small.
+        Err(refusal) => Judged {
+            written: 0,
+            refusal: refusal.number(),
+            place: refusal.place() as u32,
+        },
     }
 }
 

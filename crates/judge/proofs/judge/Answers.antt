@@ -2,4 +2,4 @@
 use Rattle.judge.proofs.judge.Goals as goal
 
 pub returns-in-Err : goal.returns-in-Err
-returns-in-Err c = rw (c.from.ensures c.in-Err.ensures.small) c.in-Err.ensures.judges
+returns-in-Err c = rw (c.number.ensures, c.place.ensures) c.in-Err.ensures.judges
