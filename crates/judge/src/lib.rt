@@ -4,10 +4,7 @@
 mod output;
 mod writer;
 
-ghost use Rattle.std.specs.Prelude.{◌≡◌, ◌≤◌, Err};
-ghost use Rattle.table.specs.Refusals.{place_of};
 ghost use Rattle.table.specs.Rows.{table_in};
-ghost use Rattle.sheets.specs.Lines.{line_limit};
 ghost use Rattle.judge.specs.Judging.{judged_of, JudgesLines, Judges, Small};
 ghost use Rattle.judge.specs.Ready.{Ready};
 
