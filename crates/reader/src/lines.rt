@@ -62,6 +62,7 @@ pub fn exists(row: Row) -> bool
     }
 }
 
+// Of a number and not of a `Direction`: a row is read as it is written, also with a direction that does not exist.
 fn direction(d: u8) -> bool
     ensures { Decides result (Direction d) }
 {

@@ -38,6 +38,7 @@ impl Given<'_> {
         ensures { Over (table_given self.now) k result (run lent.old) (run lent.new) × SameLent lent.old lent.new }
     {
         let mut any = false;
+        // By number: a code is its place in all three slices, and entering one reads the others.
         for t in 0..lent.codes {
             any |= self.enter_one(lent, k, t);
         }

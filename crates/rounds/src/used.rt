@@ -25,6 +25,7 @@ impl Tree<'_> {
         requires { self.now.codes ≤ length used.old }
         ensures { Handed self.now.codes (links self.now) r 0 self.now.codes used.old used.new }
     {
+        // By number: a code is its place in all three slices and in `used`, which is written elsewhere than it is read.
         for t in 0..self.codes {
             self.hand_on(used, r, t);
         }

@@ -28,6 +28,7 @@ impl Line {
     };
 }
 
+// A type of its own beside `Table`, since its limit and what is promised of it are its own: what is the same is `AtMost`.
 #[derive(Clone, Copy)]
 pub struct Sheet {
     pub lines: AtMost<Line, { Sheet::LINES }>,
