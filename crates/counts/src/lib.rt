@@ -73,7 +73,7 @@ pub fn look_rows_of(rows: &[Row]) -> [u8; Table::ROWS]
     ensures { LookRows (table_in rows.now) result }
 {
     let mut look_rows = [0u8; Table::ROWS];
-    // m by hand: over `enumerate`, `filter` and `enumerate` again it stayed open which row of the table each item that was kept is.
+    // m by hand: a `zip` says nothing of what was written, as above, and `AtMost::push` nothing of the places beyond, of which the promise speaks.
     let mut m: usize = 0;
     for (i, row) in rows.iter().enumerate() {
         if is_look(*row) {
