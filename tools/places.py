@@ -27,7 +27,7 @@ LINES = [
 ]
 
 # Facts that stand in contracts, and the parameters that travel with them.
-FACTS = ["Given", "Layout", "Laid", "Looking", "Sights", "Room", "Marks", "Searching", "Linked", "InOrder", "row_limit", "line_limit"]
+FACTS = ["Given", "Layout", "Laid", "Looking", "Sights", "Room", "Marks", "Searching", "Linked", "InOrder", "Accepted", "InRange", "row_limit", "line_limit"]
 
 
 def files(commit):
@@ -60,12 +60,10 @@ def bodies(text):
             yield m.group(2), text[start.end():end.start()]
 
 
-def functions(text):
-    """Name, parameters and clauses of each function."""
-    for m in re.finditer(r"\bfn (\w+)(?:<[^>]*>)?\(([^)]*)\)(.*?)\n\{|\bfn (\w+)(?:<[^>]*>)?\(([^)]*)\)(.*?)\n    \{", text, re.S):
-        name = m.group(1) or m.group(4)
-        params = [p for p in (m.group(2) or m.group(5) or "").split(",") if p.strip()]
-        yield name, params, m.group(3) or m.group(6) or ""
+def contracts(text):
+    """What stands between each function's parameters and its body."""
+    for m in re.finditer(r"\bfn \w+(?:<[^>]*>)?\([^)]*\)(.*?)\n\{|\bfn \w+(?:<[^>]*>)?\([^)]*\)(.*?)\n    \{", text, re.S):
+        yield m.group(1) or m.group(2) or ""
 
 
 def main():
@@ -92,9 +90,11 @@ def main():
     many = []
     facts = dict.fromkeys(FACTS, 0)
     for name, text in sources:
-        for f, params, clauses in functions(text):
-            if len(params) > 5:
-                many.append(f"    {name}: {f} takes {len(params)}")
+        for f, params in re.findall(r"\bfn (\w+)(?:<[^>]*>)?\(([^)]*)\)", re.sub(r"//.*", "", text)):
+            n = len([p for p in params.split(",") if p.strip()])
+            if n > 5:
+                many.append(f"    {name}: {f} takes {n}")
+        for clauses in contracts(text):
             asked = " ".join(re.findall(r"requires.*", clauses))
             for fact in FACTS:
                 facts[fact] += bool(re.search(rf"\b{fact}\b", asked))

@@ -32,7 +32,7 @@ pub struct Sighted {
 impl<'a> Looks<'a> {
     ghost use Rattle.codes.specs.Sighted.{SeesIn};
 
-    // The row whose bit has place j.
+    // The row whose bit has place j. That j is a bit stays a clause: it is of a parameter.
     pub(crate) fn look_row(&self, j: usize) -> Row
         requires { j < self.now.parts.m }
         ensures { result ≡ get_or self.now.rows.now (get_or self.now.look.now j 0) No }

@@ -19,6 +19,7 @@ pub(crate) fn length_of(n: usize) -> usize
     4 * n + n.saturating_sub(10) + n.saturating_sub(100)
 }
 
+// n stands beside the whole array: what is promised of it (`Decided`) would have to be carried over to a part.
 pub(crate) fn write(truth: &[[bool; Table::ROWS]; Sheet::LINES], n: usize, out: &mut [u8]) -> usize
     requires { (n ≤ line_limit) × (length (verdict_lines 0 (digits_of truth.now 0 n)) ≤ length out.old) }
     ensures { Written truth.now n out.old out.new result }

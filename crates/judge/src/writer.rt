@@ -4,7 +4,8 @@ ghost use Rattle.sheets.specs.Written.{numeral};
 ghost use Rattle.judge.specs.Output.{verdict_line};
 ghost use Rattle.judge.specs.Writing.{digit_from, Room, Wrote};
 
-// The next byte goes to `at`. Numerals are made by hand: `write!` answers an error, which can't come here and would have to be proved away.
+// The next byte goes to `at`, and no slice shrinks: what was written is promised of the whole memory. That there is room stays a clause, since it
+// is of the bytes about to be written. Numerals are made by hand: `write!` answers an error, which can't come here and would have to be proved away.
 #[derive(Drop)]
 pub(crate) struct Writer<'a> {
     bytes: &'a mut [u8],

@@ -10,6 +10,7 @@ ghost use Rattle.loops.specs.Closing.{AllDone};
 use crate::pairs::Pairs;
 use table::Table;
 
+// A whole array, as no heap is allowed: `Ordered` says what stands beyond the rows too.
 pub(crate) fn order_of(pairs: &Pairs) -> [u8; Table::ROWS]
     requires { LoopFree (table_in pairs.now.rows.now) × AllDone (table_in pairs.now.rows.now) pairs.now.found }
     ensures { Ordered (table_in pairs.now.rows.now) result }

@@ -18,7 +18,7 @@ pub(crate) struct Pairs<'a> {
 }
 
 impl<'a> Pairs<'a> {
-    // All the pairs that the rules give.
+    // All the pairs that the rules give. What is asked here is what `Pairs` holds from then on.
     pub(crate) fn closed(rows: &'a [Row]) -> Pairs<'a>
         requires { (length rows.now ≤ row_limit) × InRange (table_in rows.now) }
         ensures { (result.rows.now ≡ rows.now) × AllDone (table_in rows.now) result.found }

@@ -43,7 +43,7 @@ pub enum Found {
 }
 
 impl Given<'_> {
-    // The smallest good code of a round, if there is one.
+    // The smallest good code of a round, if there is one. By number: a code is its place in round, and `good` asks for the code.
     fn top_of(&self, lent: &Lent, k: u16) -> Option<usize>
         ensures { TopIs (table_given self.now) lent.now.codes lent.now.round.now k result }
     {

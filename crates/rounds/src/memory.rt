@@ -2,8 +2,9 @@
 ghost use Rattle.std.specs.Prelude.{◌≤◌, length};
 ghost use Rattle.rounds.specs.Room.{Room};
 
-// One place for each code: its round, its two neighbours, and whether it is used. The count of codes stands beside, and the slices are not cut
-// to it: what is promised is of the whole slices, and would have to be carried over from the cut ones.
+// One place for each code: its round, its two neighbours, and whether it is used. C lends and reads used as numbers, so a mark is 0 or 1 and no
+// bool. The count of codes stands beside, and the slices are not cut to it: what is promised is of the whole slices, and would have to be
+// carried over from the cut ones.
 #[derive(Drop)]
 pub struct Memory<'a> {
     pub round: &'a mut [u16],

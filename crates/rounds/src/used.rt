@@ -8,7 +8,8 @@ use crate::NONE;
 use crate::tree::Tree;
 
 impl Tree<'_> {
-    // Marks the codes met from the top, round by round downwards, since a neighbour is of an earlier round than its code.
+    // Marks the codes met from the top, round by round downwards, since a neighbour is of an earlier round than its code. That `used` has a place
+    // for each code stays a clause: it is written, and what is shared can't hold it.
     pub(crate) fn mark_used(&self, used: &mut [u8], height: u16, top: u16)
         requires room { self.now.codes ≤ length used.old }
         requires from_top { (top < self.now.codes) × (get_or self.now.round.now top 0 ≡ height) × (0 < height) × ((u : ℕ) → u < self.now.codes → get_or used.old u 0 ≡ 0) }

@@ -16,6 +16,7 @@ fn show_case<W: Write>(out: &mut W, case: &Case) -> io::Result<()> {
     show::show_judged(out, table, sheet)
 }
 
+// The chain of `cases` over other cases: one for both would be handed what shows a case, and is no plainer.
 fn show_cases<W: Write>(out: &mut W, cases: &[Case]) -> io::Result<()> {
     cases.iter().try_for_each(|case| show_case(out, case))
 }

@@ -33,7 +33,7 @@ fn wrong_link(link: Option<u16>, i: usize, n: usize) -> bool
     link.is_some_and(|j| usize::from(j) <= i || n <= usize::from(j))
 }
 
-// Whether line j is named never or more than once. The count ends at the second name, so it can't overflow.
+// Whether line j is named never or more than once. The count ends at the second name, so it can't overflow; a chain would go on.
 #[tactic(auto, using(crate::proofs::Counting::times_next, crate::proofs::Counting::times_end))]
 fn misnamed(lines: &[Line], j: usize) -> bool
     ensures { result ≡ not (eqb (times_named j lines.now) 1) }

@@ -68,7 +68,8 @@ pub fn solve(
     }
 }
 
-// For whoever asks in Rust, without the numbers. A text is read, and then solved where each of the four slices has a place for every code.
+// For whoever asks in Rust, without the numbers; the slices stay as C lends them. A text is read, and then solved where each of the four has a
+// place for every code.
 pub fn reply(
     text: &[u8],
     round: &mut [u16],

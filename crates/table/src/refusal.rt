@@ -37,7 +37,7 @@ impl Refusal {
         }
     }
 
-    // 0 where the number alone says it.
+    // 0 where the number alone says it, and no Option: the promise `place_of` says that number.
     pub fn place(self) -> usize
         ensures { result ≡ place_of self }
     {

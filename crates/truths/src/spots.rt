@@ -57,7 +57,7 @@ impl Spot {
     }
 }
 
-// One for each line, and none of any meaning after them. What is asked of the lines is held by the spots from here on (`Asked`).
+// One for each line, and none of any meaning after them: a whole array, as no heap is allowed. What is asked of the lines is held by the spots from here on (`Asked`).
 #[tactic(auto, using(crate::proofs::Placing::line_more, crate::proofs::Inside::line_within))]
 pub(crate) fn spots_of(rows: &[Row], lines: &[Line]) -> [Spot; Sheet::LINES]
     requires { (length lines.now ≤ line_limit) × FaultFree lines.now }
