@@ -21,9 +21,6 @@ returns-then-shortest-codes c =
     let n = rw c.rows-rows.ensures at c.size_of-codes.ensures in
     solved_reply c.in_ok-loaded.ensures.answered _ _ _ (short (no_room_in _ _ n (omega arith)) refl refl)
 
-pub invariant_of-memory : goal.invariant_of-memory
-invariant_of-memory c = record { room = record { room_round = omega arith; room_first = omega arith; room_next = omega arith }; room_used = omega arith }
-
 pub search_rows-requires : goal.search_rows-requires
 search_rows-requires c =
     let l = c.in_ok-loaded.ensures in
