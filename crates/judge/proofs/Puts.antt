@@ -1,10 +1,13 @@
 -- Bytes put one after another into lent memory.
 use Prim.Native.Nat.{ℕ, ◌+◌}
-use mathlib.Core.List.{List, [], ◌++◌, append_assoc, append-nil}
+use mathlib.Core.List.{List, [], ◌∷◌, ◌++◌, append_assoc, append-nil}
 use mathlib.Core.Path.{◌≡◌, sym, ap, subst, ◌∙◌}
 use native.Mathlib.Omega.{arith}
 use lib.ListN.{length, drop, take, length-append}
 use lib.Seq.{length-take-le, take_at, drop_at, drop-drop}
+use Rattle.table.specs.Written.{tab, line_feed}
+use Rattle.sheets.specs.Written.{numeral}
+use Rattle.judge.specs.Output.{verdict_line}
 use Rattle.judge.specs.Writing.{Room, Wrote}
 use Rattle.judge.specs.declared.writer.Writer.{Writer}
 
@@ -27,6 +30,11 @@ wrote_both {w} {v} {u} {xs} {ys} room p q =
       long = q.long ∙ p.long;
       ends = omega (arith, length-append xs ys, p.ends, q.ends);
     }
+
+-- A line has room with any digit where it has with one.
+pub any_digit : (w : Writer) (i d e : ℕ) → Room w (verdict_line i d) → Room w (verdict_line i e)
+any_digit w i d e r =
+    omega (arith, r, length-append (numeral i) (tab ∷ ((48 + d) ∷ (line_feed ∷ []))), length-append (numeral i) (tab ∷ ((48 + e) ∷ (line_feed ∷ []))))
 
 -- Of a whole text one part is put, from the start of the lent memory, and the rest is still to come.
 pub record Partly (whole rest : List ℕ) (w v : Writer) : Type 0 where
