@@ -36,6 +36,10 @@ module _ (rows : Table) (s : Side) (t u i : ℕ) where
     λ f. f.back k e,
   )
 
+  -- a row of another direction asks nothing
+  pub fits_aside : {d : Dir} {k : ℕ} → row_at rows i ≡ go_row d k → (d ≡ down s → ⊥) → (d ≡ up s → ⊥) → FitsRow rows s t u i
+  fits_aside e n o = record { forth = λ j q. absurd (n (same_way e q)); back = λ j q. absurd (o (same_way e q)) }
+
 module _ (rows : Table) (code i : ℕ) where
   pub flagged : {d : Dir} {k : ℕ} → row_at rows i ≡ go_row d k → (HasBit rows code i → HasFlag rows code d) ↔ Flagged rows code i
   flagged {d} {k} e = (λ h j z q b. subst (HasFlag rows code) (same_way e q) (h b), λ f. f k d e)

@@ -1,6 +1,7 @@
 pub mod Apart
 pub mod Settled
 pub mod Looking
+pub mod Directions
 pub mod Fits
 pub mod Takes
 pub mod LaidOut

@@ -55,9 +55,9 @@ module _ (test : ℕ → Bool) where
 
 -- packing the bits up to m downwards: those above j are packed
 module _ (test : ℕ → Bool) (m : ℕ) where
-  pub packed_none : 0 ≡ packed test (m - m) (suc m)
+  pub packed_none : (j u : ℕ) → m ≤ j → 0 ≡ packed test (m - j) u
   unfolding packed
-  packed_none = let e : m - m ≡ 0 = omega arith in rw e
+  packed_none j u h = let e : m - j ≡ 0 = omega arith in rw e
 
   packed_down : (j s b : ℕ) → s ≡ packed test (m - j) (suc j) → b ≡ from_bool (test j) → s * 2 + b ≡ packed test (suc (m - j)) j
   unfolding packed

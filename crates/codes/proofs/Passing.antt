@@ -44,10 +44,14 @@ module _ {rows : Table} {order : List ℕ} {code : ℕ} where
             later (no z) = omega arith
 
 -- a step is a row's
-pub step_inside : {rows : List Row} {order : List ℕ} → ∥ InOrder rows order ∥₁ → (k : ℕ) → k < length rows → get_or order k 0 < 48
+pub step_inside : {rows : List Row} {order : List ℕ} → ∥ InOrder rows order ∥₁ → (k : ℕ) → k < length rows → get_or order k 0 < length rows
 step_inside {rows} m k h =
     ∥∥₁_elim m (Prim.hlevel props)
-    (λ o. let s : get_or _ k 0 < length rows = simp length-map at (o.ordered.rows_only k (simp length-map h)) in omega (arith, o.few))
+    (λ o. simp length-map at (o.ordered.rows_only k (simp length-map h)))
+
+-- there are at most 48 rows
+pub few_rows : {rows : List Row} {order : List ℕ} → ∥ InOrder rows order ∥₁ → length rows ≤ 48
+few_rows m = ∥∥₁_elim m (Prim.hlevel props) (λ o. o.few)
 
 pub some_row : {rows : List Row} {order : List ℕ} → ∥ InOrder rows order ∥₁ → 0 < length rows
 some_row m = ∥∥₁_elim m (Prim.hlevel props) (λ o. o.some)

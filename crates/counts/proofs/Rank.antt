@@ -44,6 +44,19 @@ pub refers_there : {rows : Table} (i : ℕ) {j : ℕ} → Refers rows i j → i 
 refers_there {rows} i r = row_there rows i (λ n. absurd (omega (arith, above (λ k. 0) i r, ap (deeper (λ k. 0)) n)))
 
 module _ (rows : Table) where
+  -- no depth is more than the most there can be, and no rank is more than there are rows
+  depth_most : (most i : ℕ) → depth rows most i ≤ most
+  unfolding depth
+  depth_most zero i = omega arith
+  depth_most (suc most) i =
+      under (depth rows most) (suc most) (row_at rows i)
+      (λ j k e. (omega (arith, depth_most most j), omega (arith, depth_most most k)))
+      (λ j k e. (omega (arith, depth_most most j), omega (arith, depth_most most k)))
+
+  pub rank_most : (i : ℕ) → rank_of rows i ≤ length rows
+  unfolding rank_of
+  rank_most i = depth_most (length rows) i
+
   -- where no chain of references has k steps, no depth is k
   depth_shallow : (k most i : ℕ) → Shallow (flat rows) k i → depth rows most i < k
   unfolding depth

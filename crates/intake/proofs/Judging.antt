@@ -1,12 +1,18 @@
--- A text is answered by what reading refuses, or else by the judgement of the table that it gives.
+-- No rows are in order, and a text is answered by what reading refuses, or else by the judgement of the table that it gives.
 use Prim.Native.Nat.{ℕ}
+use native.Mathlib.Omega.{arith}
 use mathlib.Core.Bool.{Bool, true, false}
-use mathlib.Core.List.{List}
-use mathlib.Core.Path.{◌≡◌, refl}
+use mathlib.Core.List.{List, []}
+use mathlib.Core.Path.{◌≡◌, refl, ap}
+use lib.ListN.{length, replicate}
 use Rattle.std.specs.Prelude.{Ok, Err}
+use Rattle.meaning.specs.Table as M
 use Rattle.table.specs.Rows.{rows_of}
 use Rattle.table.specs.declared.Table.{Table}
 use Rattle.table.specs.declared.refusal.Refusal.{Refusal}
+use Rattle.counts.specs.Order.{Ordered}
+use Rattle.counts.proofs.Grown.{zeros}
+use Rattle.counts.proofs.Rank.{refers_there}
 use Rattle.reader.specs.Reading.{Answers}
 use Rattle.loops.specs.Faults.{as_refusal}
 use Rattle.loops.specs.Handed.{checked}
@@ -14,6 +20,19 @@ use Rattle.loops.specs.Judged.{Fine, Judged}
 use Rattle.loops.specs.declared.Fault.{Fault}
 use Rattle.loops.specs.declared.Fault.TheVariants as F
 use Rattle.intake.specs.Loading.{table, unread, judged, Answered}
+
+-- no rows are in any order that is 0 throughout
+pub ordered_none : {rows : M.Table} → rows ≡ [] → Ordered rows (replicate M.row_limit 0)
+ordered_none e =
+    let l = ap length e in
+    record {
+      place = λ i. 0;
+      there = λ i h. absurd (omega arith);
+      stands = λ i h. absurd (omega arith);
+      before = λ i j r. absurd (omega (arith, refers_there i r));
+      rows_only = λ k h. absurd (omega arith);
+      rest = λ k h. zeros M.row_limit k;
+    }
 
 module _ {text : List ℕ} where
   pub unread_by : (sized : Bool) (e r : Refusal) → e ≡ r → Answers text (Err r) → Answered sized text (Err e)

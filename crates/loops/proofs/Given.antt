@@ -1,5 +1,6 @@
 -- The rules and the steps of 01: what a rule gives is joined, and each step of a cancelling walk is given by a rule.
-use Prim.Native.Nat.{ℕ, ◌<◌}
+use Prim.Native.Nat.{ℕ, ◌<◌, ◌≤◌}
+use native.Mathlib.Omega.{arith}
 use mathlib.Core.Bool.{Bool, ◌||◌}
 use mathlib.Core.List.{List}
 use mathlib.Core.Logic.{◌⊎◌, inl, inr, ⊎_elim}
@@ -47,6 +48,13 @@ numbered (down first) = refl
 numbered (down next) = refl
 numbered (up first) = refl
 numbered (up next) = refl
+
+-- the numbers are 1 to 4
+pub numbers : (d : Dir) → (1 ≤ number d) × (number d ≤ 4)
+numbers (down first) = (omega arith, omega arith)
+numbers (down next) = (omega arith, omega arith)
+numbers (up first) = (omega arith, omega arith)
+numbers (up next) = (omega arith, omega arith)
 
 opposite_to : (d e : Dir) → Is (opposite d e) → e ≡ converse d
 opposite_to d e h = sym (numbered e) ∙ (ap dir_of (sym ((eqb_iff (number (converse d)) (number e)).0 h)) ∙ numbered (converse d))

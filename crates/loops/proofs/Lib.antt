@@ -1,4 +1,5 @@
 pub mod Rows
+pub mod Told
 pub mod Search
 pub mod Given
 pub mod Marking

@@ -23,6 +23,10 @@ use Rattle.loops.proofs.Search.{position_map}
 pub row_told : (rows : List T.Row) (i : ℕ) → i < length rows → row_at (table_in rows) i ≡ meant (get_or rows i Yes)
 row_told rows i h = row_at-table_in rows Yes i h
 
+-- what a test says of a row, it says of the table's row
+pub told_of_row : (rows : List T.Row) (i : ℕ) → i < length rows → (test : M.Row → Bool) {said b : Bool} → said ≡ test (meant (get_or rows i Yes)) → said ≡ b → test (row_at (table_in rows) i) ≡ b
+told_of_row rows i inside test e f = rw (row_told rows i inside) (sym e ∙ f)
+
 pub missing_told : (rows : List T.Row) → position (λ r. misses (length rows) (meant r)) rows ≡ first_missing (table_in rows)
 missing_told rows = sym (position_map (misses (length (table_in rows))) meant rows ∙ rw (table_long rows))
 

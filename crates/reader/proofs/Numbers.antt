@@ -4,10 +4,11 @@ use mathlib.Core.List.{List, [], ◌∷◌, ◌++◌, append_assoc}
 use mathlib.Core.Bool.{true}
 use Prim.Native.Nat.{ℕ, zero, suc, ◌+◌, ◌*◌, ◌<◌, ◌≤◌, ◌-◌}
 use native.Mathlib.Omega.{arith}
+use borrow.Author.Tests.{ne_eqb}
 use lib.ListN.{length}
 use Rattle.std.proofs.lemmas.Grind.{common_steps}
 use Rattle.table.specs.Written.{tab, line_feed, decimal, written_fields, TwoDigits}
-use Rattle.reader.specs.Parts.{Taken, taken, nothing, ◌then◌, byte_in, digit, second, number_in, field_in, fields_in}
+use Rattle.reader.specs.Parts.{Taken, taken, nothing, ◌then◌, byte_in, digit, second, first, number_in, field_in, fields_in}
 
 -- a byte and whether it is a digit
 pub digit_is : (x : ℕ) → 48 ≤ x → x ≤ 57 → digit x ≡ true
@@ -15,6 +16,9 @@ digit_is x l h = grind (arith, common_steps)
 
 pub digit_fits : (x : ℕ) → digit x ≡ true → (48 ≤ x) × (x ≤ 57)
 digit_fits x e = grind (arith, common_steps)
+
+pub first-digit : (x : ℕ) (s : List ℕ) → (x ≡ 48 → ⊥) → digit x ≡ true → first x s ≡ second (x - 48) s
+first-digit x s n d = rw (d, ne_eqb x 48 n)
 
 pub second-digit : (x : ℕ) (s : List ℕ) (n : ℕ) → digit x ≡ true → second n (x ∷ s) ≡ taken (n * 10 + (x - 48)) s
 second-digit x s n d = rw d

@@ -8,8 +8,9 @@ use mathlib.Core.Path.{◌≡◌, refl, sym, ◌∙◌}
 use lib.ListN.{get_or}
 use Rattle.meaning.specs.Code.{codes, HasFlag, Proper, Takes}
 use Rattle.meaning.specs.Marked.{Smallest, Within}
-use Rattle.meaning.specs.Outcome.{Slices, recorded, Accepted, RoundIs, entered, not_entered, Earlier, NeighbourIs, smallest, no_child, left_out}
+use Rattle.meaning.specs.Outcome.{Slices, recorded, Accepted, RoundIs, absent, entered, not_entered, Earlier, NeighbourIs, smallest, no_child, left_out}
 use Rattle.meaning.specs.Table.{Side, down, Table}
+use Rattle.meaning.proofs.Codes.Absent.{never}
 use Rattle.meaning.proofs.Rounds.Entry.{entry}
 use Rattle.meaning.proofs.Rounds.Places.{round_unique, was_entered}
 use Rattle.meaning.proofs.Rounds.Smallest.{smallest_from, smallest_within, smallest_code, smallest_pos}
@@ -43,6 +44,10 @@ module _ {rows : Table} (a : Accepted rows) {k t : ℕ} {x : Slices} (h : Halfwa
       at : Dec (u < t) → get_or x.round u 0 ≡ j
       at (yes q) = round_unique (h.visited u l q) (entered y (omega arith))
       at (no q) = round_unique (h.waiting u l (omega arith)) (entered y (omega arith))
+
+  -- 65,535 is never entered
+  pub not_absent : (u : ℕ) → u < codes rows → 0 < get_or x.round u 0 → u ≢ absent
+  not_absent u l p = never rows a.room u l (smallest_code (entered_there u l p).0).1
 
   pub earlier_within : (u : ℕ) → u < codes rows → 0 < get_or x.round u 0 → get_or x.round u 0 < k → Within rows (k - 1) u
   earlier_within u l p b = smallest_within (k - 1) (entered_there u l p).0 (omega arith)

@@ -8,16 +8,19 @@ use mathlib.Core.Path.{◌≡◌, refl}
 use lib.ListN.{get_or, length, set}
 use lib.Seq.{get_or-set_same, get_or-set_other}
 use Rattle.meaning.specs.Code.{codes, Proper}
-use Rattle.meaning.specs.Outcome.{recorded, Accepted}
+use Rattle.meaning.specs.Outcome.{recorded, absent, Accepted}
 use Rattle.meaning.specs.Table.{Side, first, next, Table}
 use Rattle.rounds.specs.Room.{Room}
 use Rattle.rounds.specs.Round.{running, Settles, Stuck, Halfway, Visited}
-use Rattle.rounds.proofs.Halfway.{was_there, improper, stuck, enters_here, enter}
+use Rattle.rounds.proofs.Halfway.{not_absent, was_there, improper, stuck, enters_here, enter}
 use Rattle.rounds.proofs.Places.{all_same, all_kept, kept_same, kept_store}
 
 module _ {rows : Table} (a : Accepted rows) {c k t : ℕ} (count : c ≡ codes rows) {r f n : List ℕ} (room : Room c r f n) (l : t < c) (h : Halfway rows k t (running r f n)) where
   is_code : t < codes rows
   is_code = rw count at l
+
+  pub none_absent : (u : ℕ) → u < c → 0 < get_or r u 0 → u ≢ absent
+  none_absent u b = not_absent a h u (rw count at b)
 
   left_alone : Halfway rows k (t + 1) (running r f n) → Visited rows k t false (running r f n) (running r f n)
   left_alone y = record { halfway = y; enters = λ e. cc; idle = λ e. refl; kept = all_same }

@@ -7,7 +7,7 @@ use Rattle.std.proofs.lemmas.Slice.{take-put_mid}
 use lib.Seq.{take-add}
 use borrow.Rule.Slice.PartMut.{put_mid}
 
-take-read : (i k n : ℕ) (text part : List ℕ) → i ≤ length text → n ≤ length part → take (i + n) (put_mid i k text part) ≡ take i text ++ take n part
+pub take-read : (i k n : ℕ) (text part : List ℕ) → i ≤ length text → n ≤ length part → take (i + n) (put_mid i k text part) ≡ take i text ++ take n part
 take-read i k n text part h few =
     let front = length-take-le i text h in
     sym (take-take (i + n) (i + length part) (put_mid i k text part) (omega arith))

@@ -74,7 +74,7 @@ module _ (rows : Table) (lines : List Line) (spots : List Spot) (few : length li
     to_line {i = i} a (by_go {d = d} e h) = let x = near_back tree a e in at_go (near_is free (o.nears d i) x.1) (to_line x.2 h)
     to_line {i = i} a (by_stop {d = d} e) = at_stop (none_is (o.nears d i) (λ j n. let x = near_there tree a n in some-ne-none x.0 (sym x.2 ∙ e)))
 
-    bridge : (r : Row) (i : ℕ) (p : Place) → At lines i p → HoldsAt rows spots r i ↔ Holds rows t r p
+    pub bridge : (r : Row) (i : ℕ) (p : Place) → At lines i p → HoldsAt rows spots r i ↔ Holds rows t r p
     bridge r i p a = (to_node a, to_line a)
 
   -- what is settled over the spots is decided on the sheet's tree

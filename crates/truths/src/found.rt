@@ -5,13 +5,11 @@ ghost use Rattle.table.specs.Decides.{Decides};
 ghost use Rattle.meaning.specs.Table.{row_limit};
 ghost use Rattle.sheets.specs.Lines.{line_limit};
 
+use crate::CELLS;
 use crate::cell::Cell;
 use sheets::Sheet;
 use table::Table;
 use table::at_most::AtMost;
-
-// One for each line and row.
-const CELLS: usize = Sheet::LINES * Table::ROWS;
 
 // The queue has each cell found once.
 #[derive(Drop)]

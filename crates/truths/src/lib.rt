@@ -19,6 +19,9 @@ use found::Found;
 use sheets::{Line, Sheet};
 use table::{Row, Table};
 
+// One for each line and row.
+pub const CELLS: usize = Sheet::LINES * Table::ROWS;
+
 // Whether each row is true at each line: a line's rows stand together, in a whole square, as no heap is allowed. What is asked here is what `Asked` holds from then on.
 pub fn truths_of(rows: &[Row], lines: &[Line]) -> [[bool; Table::ROWS]; Sheet::LINES]
     requires { (length rows.now ≤ row_limit) × InRange (table_in rows.now) × (length lines.now ≤ line_limit) × FaultFree lines.now }

@@ -5,7 +5,7 @@ use Rattle.codes.specs.Truths.{true_by}
 use Rattle.codes.proofs.layout.Layout.pack.Goals as goal
 
 pub loop-j-init : goal.loop-j-init
-loop-j-init c = packed_none _ c.args.self.now.looks.parts.m
+loop-j-init c = let m = c.args.self.now.looks.parts.m in packed_none _ m m (suc m) (omega arith)
 
 -- at most 12 bits are packed before the last
 pub overflow_mul-sight : goal.overflow_mul-sight

@@ -3,7 +3,7 @@ use Rattle.std.proofs.Math.ListN.{length-set}
 use Rattle.std.proofs.Math.Seq.{get_or-take}
 use Rattle.std.proofs.Math.Logic.{∥∥₁_map}
 use Rattle.counts.proofs.Laws.{table_long}
-use Rattle.codes.proofs.Passing.{passed_more, passed_all, step_inside, steps_long}
+use Rattle.codes.proofs.Passing.{passed_more, passed_all, step_inside, few_rows, steps_long}
 use Rattle.codes.proofs.Sure.{all_worked}
 use Rattle.codes.proofs.layout.Layout.truths_in.Goals as goal
 
@@ -13,7 +13,7 @@ loop-row-preserved c =
     let l = c.loop-row in
     let turn : l.row-index < length s.looks.rows.now = omega (arith, steps_long s.in_order) in
     let e = c.from-row.ensures ∙ get_or-take (length s.looks.rows.now) s.order.now l.row-index 0 turn in
-    let inside : get_or s.order.now l.row-index 0 < length l.truths = omega (arith, step_inside s.in_order l.row-index turn) in
+    let inside : get_or s.order.now l.row-index 0 < length l.truths = omega (arith, step_inside s.in_order l.row-index turn, few_rows s.in_order) in
     (simp length-set l.invariant.0, rw e (passed_more l.row-index l.invariant.1 s.laid.range c.truth.result inside (rw e at c.truth.ensures)))
 
 pub returns : goal.returns
