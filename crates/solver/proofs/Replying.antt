@@ -2,7 +2,7 @@
 use Prim.Native.Nat.{ℕ, ◌≤◌}
 use native.Mathlib.Omega.{arith}
 use mathlib.Core.List.{List}
-use mathlib.Core.Path.{◌≡◌, subst}
+use mathlib.Core.Path.{◌≡◌, refl, subst}
 use Rattle.meaning.specs.Table.{Table}
 use Rattle.meaning.specs.Code.{codes}
 use Rattle.meaning.specs.Outcome.{Slices, Verdict, sat, unsat}
@@ -10,7 +10,7 @@ use Rattle.table.specs.declared.Row.{Row}
 use Rattle.reader.specs.Reading.{rows_read, refused}
 use Rattle.intake.specs.Loading.{Loads, table}
 use Rattle.intake.proofs.Theorems.{one_answer}
-use Rattle.solver.specs.Solved.{Refused, Reply, Room, numbered, Answers, Solves, short, answered, Replies, not_accepted, accepted}
+use Rattle.solver.specs.Solved.{Sat, Unsat, Refused, Reply, Says, answer_by, Room, numbered, Answers, Solves, short, answered, Replies, not_accepted, accepted, Solved}
 
 -- a text has one reading, so no second way of being answered
 module _ {text : List ℕ} {old new : Slices} {r : Reply} where
@@ -42,3 +42,12 @@ pub small_place : {text : List ℕ} {old new : Slices} {n p : ℕ} → Replies t
 small_place {text} {p = p} (not_accepted {n = m} {p = q} l e s) = let z = (one_answer text).small m q l in let f : q ≡ p = cc in omega (arith, z.2)
 small_place {p = p} (accepted l (short k e s)) = let f : p ≡ 0 = cc in omega arith
 small_place (accepted l (answered m a)) = absurd (refuses_not a.verdict a.numbers)
+
+said_so : (r : Reply) → Says (answer_by r) r
+said_so (Sat h t) = record { verdict_is = refl; height_is = refl; top_is = refl; refusal_is = refl; place_is = refl }
+said_so (Unsat n) = record { verdict_is = refl; height_is = refl; top_is = refl; refusal_is = refl; place_is = refl }
+said_so (Refused n p) = record { verdict_is = refl; height_is = refl; top_is = refl; refusal_is = refl; place_is = refl }
+
+-- what is replied is an answer's, so that the demands speak of it
+pub solved_by : {text : List ℕ} {old new : Slices} {r : Reply} → Replies text old new r → Solved text old new (answer_by r)
+solved_by {r = r} p = record { reply = r; replies = p; says = said_so r }

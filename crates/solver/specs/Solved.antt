@@ -32,6 +32,12 @@ Says a (Sat h top) = Numbers a 1 h top 0 0
 Says a (Unsat r) = Numbers a 2 r 0 0 0
 Says a (Refused n p) = Numbers a 0 0 0 n p
 
+-- The answer with those numbers.
+abbrev pub answer_by : Reply → Answer
+answer_by (Sat h top) = record { verdict = 1; height = h; top = top; refusal = 0; place = 0 }
+answer_by (Unsat r) = record { verdict = 2; height = r; top = 0; refusal = 0; place = 0 }
+answer_by (Refused n p) = record { verdict = 0; height = 0; top = 0; refusal = n; place = p }
+
 -- The case of a verdict.
 abbrev pub numbered : Verdict → Reply
 numbered (sat h top) = Sat h top
@@ -70,6 +76,10 @@ pub record Solved (text : List ℕ) (old new : Slices) (a : Answer) : Type 0 whe
   pub reply : Reply
   pub replies : Replies text old new reply
   pub says : Says a reply
+
+-- The numbers of the code's answer, for whoever asks in Rust: what is promised of an answer is promised of it too.
+abbrev pub answer_of : Result Found Refusal → Answer
+answer_of r = answer_by (reply_of r)
 
 -- How many codes a name has in the text's table, for whoever prints a code's name.
 pub record NameWidth (text : List ℕ) (width : ℕ) : Type 0 where

@@ -5,7 +5,7 @@ mod search;
 
 ghost use Rattle.rounds.specs.Found.{verdict_of};
 ghost use Rattle.rounds.specs.Kept.{lent};
-ghost use Rattle.solver.specs.Solved.{Says, numbered, reply_of, Replies, Solved, NameWidth};
+ghost use Rattle.solver.specs.Solved.{Says, numbered, reply_of, answer_of, Replies, Solved, NameWidth};
 
 use rounds::Found;
 use rounds::memory::Memory;
@@ -77,7 +77,8 @@ pub fn reply(
     next: &mut [u16],
     used: &mut [u8],
 ) -> Result<Found, Refusal>
-    ensures { Replies text.now (lent round.old first.old next.old used.old) (lent round.new first.new next.new used.new) (reply_of result) }
+    ensures replies { Replies text.now (lent round.old first.old next.old used.old) (lent round.new first.new next.new used.new) (reply_of result) }
+    ensures solved { Solved text.now (lent round.old first.old next.old used.old) (lent round.new first.new next.new used.new) (answer_of result) }
 {
     let loaded = intake::load(text)?;
     let rows = loaded.table.rows();
