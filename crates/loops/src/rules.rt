@@ -39,7 +39,7 @@ impl Pairs<'_> {
         ensures { result ≡ meets (length self.now.rows.now) self.now.found i j }
     {
         // By index: a row of the square is held against a column.
-        (0..self.rows.len()).any(|k| self.joined(i, k) && self.joined(k, j))
+        (0..self.rows.len()).any(|k| self.found[i][k] && self.found[k][j])
     }
 }
 
@@ -56,7 +56,8 @@ fn goes_back(row: Row, direction: Direction, j: usize) -> bool
     ensures { result ≡ back_to (dir direction) j (meant row) }
 {
     match row {
-        Row::Go(e, k) => Direction::of(e) == direction.converse() && usize::from(k) == j,
+        // The row first: it is seldom j, and directions are the dearer to compare.
+        Row::Go(e, k) => usize::from(k) == j && Direction::of(e) == direction.converse(),
         _ => false,
     }
 }
