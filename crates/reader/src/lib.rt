@@ -30,7 +30,7 @@ pub fn read_text(text: &[u8]) -> Result<Table, Refusal>
         if !lines::exists(row) {
             return Err(Refusal::NotThere(n));
         }
-        t = t.with_row(row);
+        t.add_row(row);
     }
     Ok(t)
 }

@@ -48,13 +48,11 @@ impl Sheet {
         }
     }
 
-    // The sheet with one line more, or as it is where it is full.
-    pub(crate) fn with_line(self, line: Line) -> Sheet
-        ensures { Extended self line result }
+    // One line more, or as it is where it is full. In place: a sheet is 2,560 bytes, and is not copied for each line.
+    pub(crate) fn add_line(&mut self, line: Line)
+        ensures { Extended self.old line self.new }
     {
-        Sheet {
-            lines: self.lines.with(line),
-        }
+        self.lines.push(line);
     }
 
     pub fn lines(&self) -> &[Line]

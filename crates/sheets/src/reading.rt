@@ -22,7 +22,7 @@ pub(crate) fn read_text(text: &[u8]) -> Result<Sheet, Refusal>
             return Err(Refusal::MalformedLine(Sheet::LINES));
         }
         let line = lines::read_line(&mut rest).ok_or(Refusal::MalformedLine(n))?;
-        sheet = sheet.with_line(line);
+        sheet.add_line(line);
     }
     Ok(sheet)
 }

@@ -85,7 +85,14 @@ impl Table {
         }
     }
 
-    // The table with one row more, or as it is where it is full.
+    // One row more, or as it is where it is full. In place: a table that is built row by row is not copied for each.
+    pub fn add_row(&mut self, row: Row)
+        ensures { Extended self.old row self.new }
+    {
+        self.rows.push(row);
+    }
+
+    // The same as a new value.
     pub fn with_row(self, row: Row) -> Table
         ensures { Extended self row result }
     {

@@ -5,4 +5,4 @@ use Rattle.reader.proofs.read_text.Goals as goal
 
 pub loop-rest-preserved : goal.loop-rest-preserved
 loop-rest-preserved c =
-    row_added c.loop-rest.invariant c.with_row-t.ensures (refuted c.is_empty-in-loop-rest.ensures c.loop-rest-test.true) c.if-n-eq-ROWS.false (search rules) (c.exists.ensures.sound c.if-not-exists.false)
+    row_added c.loop-rest.invariant c.add_row.ensures (refuted c.is_empty-in-loop-rest.ensures c.loop-rest-test.true) c.if-n-eq-ROWS.false (search rules) (c.exists.ensures.sound c.if-not-exists.false)
