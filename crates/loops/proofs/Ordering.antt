@@ -70,8 +70,8 @@ module _ (rows : Table) (m : List (List Bool)) (range : InRange rows) (marks : M
       (rw e (not_joined_to_itself j))
       (rw e (all_found rows m range closed (by_flat r)).mark)
 
-  -- the rows' numbers from the last on and by their reach, and then nothing
-  module _ (numbers sorted rest : List ℕ) (long : length numbers ≡ length rows) (first : (k : ℕ) → k < length rows → get_or numbers k 0 ≡ length rows - 1 - k) (blank : (k : ℕ) → get_or rest k 0 ≡ 0) (moved : IsPermutation numbers sorted) (rising : IsNonDecreasingBy (reach (length rows) m) sorted) where
+  -- the rows' numbers as they come and by their reach, and then nothing
+  module _ (numbers sorted rest : List ℕ) (long : length numbers ≡ length rows) (each : (i : ℕ) → i < length rows → Contains numbers i) (few : (k : ℕ) → k < length rows → get_or numbers k 0 < length rows) (blank : (k : ℕ) → get_or rest k 0 ≡ 0) (moved : IsPermutation numbers sorted) (rising : IsNonDecreasingBy (reach (length rows) m) sorted) where
     as_long : length sorted ≡ length rows
     as_long = length_permutation numbers sorted moved ∙ long
 
@@ -80,9 +80,8 @@ module _ (rows : Table) (m : List (List Bool)) (range : InRange rows) (marks : M
 
     there : (i : ℕ) → i < length rows → place_of i < length rows
     there i h =
-        let back = length rows - 1 - i in
         at
-        (Contains-permutation numbers sorted i moved (back, omega (arith, long), get_or_default numbers back i 0 (omega (arith, long)) ∙ (first back (omega arith) ∙ omega arith)))
+        (Contains-permutation numbers sorted i moved (each i h))
         (dec_lt (place_of i) (length rows))
       where
         at : Contains sorted i → Dec (place_of i < length rows) → place_of i < length rows
@@ -95,7 +94,7 @@ module _ (rows : Table) (m : List (List Bool)) (range : InRange rows) (marks : M
     small : (k : ℕ) → k < length rows → get_or sorted k 0 < length rows
     small k h =
         All-permutation (λ (x : ℕ). x < length rows) numbers sorted moved
-        (λ j d g. let l : j < length rows = omega (arith, long) in rw (get_or_default numbers j d 0 g, first j l) (omega arith))
+        (λ j d g. rw (get_or_default numbers j d 0 g) (few j (omega (arith, long))))
         k 0 (omega (arith, as_long))
 
     before : (i j : ℕ) → Refers rows i j → place_of j < place_of i
@@ -135,6 +134,6 @@ module _ (rows : Table) (m : List (List Bool)) (range : InRange rows) (marks : M
     blank k =
         get_or-drop n written k 0 ∙ (get_or-append_right numbers (drop n (replicate w 0)) n (n + k) 0 long (omega arith) ∙ (get_or-drop n (replicate w 0) (n + k - n) 0 ∙ zeros w (n + (n + k - n))))
 
-    pub ordered_rows : ((k : ℕ) → k < n → get_or numbers k 0 ≡ n - 1 - k) → IsPermutation (take n written) sorted → IsNonDecreasingBy (reach n m) sorted → Ordered rows (sorted ++ drop n written)
-    ordered_rows first moved rising =
-        ordered numbers sorted (drop n written) (long ∙ e) (λ k h. rw (← e) (first k (omega arith))) blank (rw (front (drop n (replicate w 0))) at moved) (rw e at rising)
+    pub ordered_rows : ((i : ℕ) → i < n → Contains numbers i) → ((k : ℕ) → k < n → get_or numbers k 0 < n) → IsPermutation (take n written) sorted → IsNonDecreasingBy (reach n m) sorted → Ordered rows (sorted ++ drop n written)
+    ordered_rows each few moved rising =
+        ordered numbers sorted (drop n written) (long ∙ e) (λ i h. each i (omega arith)) (λ k h. rw (← e) (few k (omega arith))) blank (rw (front (drop n (replicate w 0))) at moved) (rw e at rising)
